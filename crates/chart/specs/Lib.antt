@@ -1,0 +1,9 @@
+pub mod Distances
+pub mod Tops
+pub mod Tables
+pub mod Weighing
+pub mod Meaning
+pub mod Laws
+pub mod Starting
+pub mod Supported
+pub mod Same

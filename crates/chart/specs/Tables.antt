@@ -1,0 +1,15 @@
+-- What a table of the code stands for. Outside the sections that it has room for, each entry is its top.
+use Prim.Native.Nat.{ℕ, _+_, _*_}
+use mathlib.Core.List.{List}
+use mathlib.Core.Bool.{cond, _&&_}
+use lib.Dec.{ltb}
+use lib.ListN.{getD}
+use Rattle.chart.specs.Distances.{Distances}
+use Rattle.chart.specs.declared.table.Table.{Table}
+
+-- the cells lie row by row, 32 to a row
+abbrev pub cell : List ℕ → ℕ → ℕ → ℕ
+cell cells s t = getD cells (s * 32 + t) 0
+
+abbrev pub distances : Table → Distances
+distances d = record { top = d .top .value; entry = λ s t. cond (ltb s 32 && ltb t 32) (cell (d .cells) s t) (d .top .value) }
