@@ -83,6 +83,10 @@ module _ (c : Chain) (s t : ℕ) (ws : List ℤ) (p : Pairing c s t ws) where
   unfolding spelled
   spelled-total d = cell-total (c .n) (triples ws) (left ws) (right ws) (amount ws) left-in right-in (d .entry)
 
+  pub spelled-times : spelled .times ≡ 1
+  unfolding spelled
+  spelled-times = refl
+
   -- what the pairing shows is at least the coupling's discounted mean
   pub mean-shown : (d : Distances) (x : ℕ) → PairingShows c d ws x → MeanAtMost c spelled d x
   unfolding spelled

@@ -33,7 +33,7 @@ use Rattle.chain.specs.Meaning.{Valid, Shows, answer, weighed, means}
 use Rattle.chain.specs.Coupling.{Coupling, total, MeanAtMost, NowhereRaised, Supported-is-nowhere-raised}
 use Rattle.chain.proofs.Valid.{judges-from, pairing-from, pairing-to, potentials-from, potentials-to}
 use Rattle.chain.proofs.Claims.{least-shown, greatest-shown}
-use Rattle.chain.proofs.Couplings.{left-in, right-in, spelled, mean-shown, product, mass, total-le, potentials-bounded}
+use Rattle.chain.proofs.Couplings.{left-in, right-in, spelled, spelled-total, spelled-times, mean-shown, product, mass, total-le, potentials-bounded}
 use Rattle.chain.proofs.Diagonal.{itself}
 
 module _ (c : Chain) (sound : Sound c) where
@@ -118,9 +118,9 @@ module _ (c : Chain) (sound : Sound c) where
         potentials-bounded c sound l e s t potentials x y k (spelled c s t pairing (upper .valid)) (lower .valid) (lower .shows) (mean-shown c s t pairing (upper .valid) e y (upper .shows)) near;
   }
 
-  -- the mean entry of a table is at most its top
-  mean-top : (d : Distances) (s t : ℕ) (k : Coupling c s t) → s < c .n → ((u v : ℕ) → u < c .n → v < c .n → d .entry u v ≤ d .top) → MeanAtMost c k d (d .top)
-  mean-top d s t k l bounded =
+  -- a coupling's total is at most its mass times the top
+  total-most : (d : Distances) (s t : ℕ) (k : Coupling c s t) → s < c .n → ((u v : ℕ) → u < c .n → v < c .n → d .entry u v ≤ d .top) → total c k d ≤ k .times * c .whole * d .top
+  total-most d s t k l bounded =
       let n = c .n in
       let row : (u : ℕ) → u < n → sum n (λ v. k .amounts u v * d .entry u v) ≤ d .top * sum n (λ v. k .amounts u v)
       = λ u lu. omega (
@@ -128,9 +128,17 @@ module _ (c : Chain) (sound : Sound c) where
         sum-le n (λ v. k .amounts u v * d .entry u v) (λ v. d .top * k .amounts u v) (λ v lv. omega (arith, mul-le-mul-left (k .amounts u v) (bounded u v lu lv), mul-comm (k .amounts u v) (d .top))),
         sum-mul n (d .top) (λ v. k .amounts u v),
       ) in
-      let all : total c k d ≤ (k .times * c .whole) * d .top
-      = omega (arith, sum-le n _ _ row, sum-mul n (d .top) (λ u. sum n (λ v. k .amounts u v)), ap (λ z. d .top * z) (mass c s t k sound l), mul-comm (d .top) (k .times * c .whole)) in
-      omega (arith, (let l : c .a ≤ c .b = omega (arith, sound .a-most) in mul-le-mul l all), mul-assoc (c .b) (k .times * c .whole) (d .top))
+      omega (arith, sum-le n _ _ row, sum-mul n (d .top) (λ u. sum n (λ v. k .amounts u v)), ap (λ z. d .top * z) (mass c s t k sound l), mul-comm (d .top) (k .times * c .whole))
+
+  mean-top : (d : Distances) (s t : ℕ) (k : Coupling c s t) → s < c .n → ((u v : ℕ) → u < c .n → v < c .n → d .entry u v ≤ d .top) → MeanAtMost c k d (d .top)
+  mean-top d s t k l bounded =
+      let small : c .a ≤ c .b = omega (arith, sound .a-most) in
+      omega (arith, mul-le-mul small (total-most d s t k l bounded), mul-assoc (c .b) (k .times * c .whole) (d .top))
+
+  pub cost-most : (d : Distances) (s t : ℕ) (ws : List ℤ) → Pairing c s t ws → ((u v : ℕ) → u < c .n → v < c .n → d .entry u v ≤ d .top) → cost d ws ≤ c .whole * d .top
+  cost-most d s t ws v bounded =
+      rw (← spelled-total c s t ws v d)
+      (omega (arith, total-most d s t (spelled c s t ws v) (v .judged .first-in) bounded, ap (λ q. q * c .whole * d .top) (spelled-times c s t ws v), ap (λ z. z * d .top) (one-mul (c .whole))))
 
   pub nowhere-raised : Supported-is-nowhere-raised c
   nowhere-raised d sup = record {

@@ -4,3 +4,4 @@ pub mod Couplings
 pub mod Claims
 pub mod Diagonal
 pub mod Laws
+pub mod Exits

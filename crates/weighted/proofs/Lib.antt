@@ -1,0 +1,4 @@
+mod Tally
+mod Triples
+mod Rounding
+pub mod Soundness
