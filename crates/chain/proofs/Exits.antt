@@ -1,16 +1,16 @@
 -- Which fault a showing has, check by check.
 use Prim.Native.Nat.{ℕ, _+_, _*_, _/_, _%_, _≤_, _<_}
-use mathlib.Core.Path.{_≡_, refl}
+use mathlib.Core.Path.{_≡_, sym, ap}
 use mathlib.Core.Bool.{Bool, true, false, not, _||_}
 use mathlib.Core.List.{List}
 use lib.Dec.{eqb, ltb}
 use lib.ListN.{length}
 use lib.IntN.{ℤ, pos, negℤ}
+use Rattle.std.specs.declared.option.Option.{Option}
 use Rattle.std.specs.declared.option.Option.the-variants.{Some, None}
 use Rattle.std.specs.Options.{mapped}
 use Rattle.std.proofs.shelf.Tests.{eq-eqb, ne-eqb, le-ltb}
 use Rattle.finite.specs.Search.{least}
-use Rattle.finite.proofs.Search.{mapped-none}
 use Rattle.chart.specs.Distances.{Distances}
 use Rattle.chain.specs.declared.fault.Fault.{Fault}
 use Rattle.chain.specs.declared.fault.Fault.the-variants.{Unjudged, PairingCount, FirstMargin, SecondMargin, PotentialsCount, Range, Above}
@@ -18,6 +18,11 @@ use Rattle.chain.specs.Chain.{Chain, unjudged}
 use Rattle.chain.specs.Words.{word, outside}
 use Rattle.chain.specs.Pairing.{left, right, margin, bad-word, word-fault, pairing-fault}
 use Rattle.chain.specs.Potentials.{above, potentials-fault}
+use Rattle.chain.specs.Meaning.{answer}
+
+-- where there is a fault, it is the answer
+pub faulty : (o : Option Fault) (f : Fault) (claim : ℕ) → o ≡ Some f → answer (Some f) claim ≡ answer o claim
+faulty o f claim e = ap (λ o. answer o claim) (sym e)
 
 module _ (c : Chain) (s t : ℕ) (ws : List ℤ) where
   pub pairing-unjudged : unjudged c s t ≡ true → pairing-fault c s t ws ≡ Some Unjudged

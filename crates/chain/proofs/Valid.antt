@@ -8,8 +8,8 @@ use mathlib.Core.List.{List, [], _∷_}
 use lib.Dec.{eqb, ltb}
 use lib.ListN.{length}
 use lib.IntN.{ℤ, pos, negℤ, _+ℤ_}
-use lib.Signed.{ltZ, _≤ℤ_}
-use borrow.Author.Differences.{lt-false, false-is-lt, le-out, at-most-in}
+use lib.Signed.{ltZ, _<ℤ_, _≤ℤ_}
+use borrow.Author.Differences.{lt-false, false-is-lt, true-is-lt, lt-out, le-out, at-most-in}
 use Rattle.std.specs.declared.option.Option.{Option}
 use Rattle.std.specs.declared.option.Option.the-variants.{Some, None}
 use Rattle.std.specs.Options.{mapped}
@@ -149,3 +149,6 @@ module _ (c : Chain) (d : Distances) (s t : ℕ) (ws : List ℤ) where
         least-none (length ws) (λ i. outside (negℤ (pos (d .top))) (pos (d .top)) (word ws i)) (λ i l. between-outside (negℤ (pos (d .top))) (pos (d .top)) (word ws i) (p .range i (omega (arith, p .count)))),
         least-none (c .n * c .n) (λ i. above c d s t ws (i / c .n) (i % c .n)) (λ i l. not-above p (i / c .n) (i % c .n) (div-below i (c .n) (c .n) some l) (mod-below i (c .n) some)),
       )
+
+  pub above-here : (u v : ℕ) → 0 < c .part s u → 0 < c .part t v → pos (d .entry u v) <ℤ (alpha ws u +ℤ beta c ws v) → above c d s t ws u v ≡ true
+  above-here u v hu hv h = rw (lt-ltb 0 (c .part s u) hu, lt-ltb 0 (c .part t v) hv) (sym (true-is-lt (pos (d .entry u v)) (alpha ws u +ℤ beta c ws v) (lt-out (pos (d .entry u v)) (alpha ws u +ℤ beta c ws v) h)))

@@ -63,15 +63,36 @@ pub impl fmt::Display for Fault as FaultDisplay {
         let place = self.place();
         write!(f, "{number} {place} ")?;
         match *self {
-            Fault::Unjudged => write!(f, "(the pair is apart, or has a section that the chart has not)"),
-            Fault::PairingCount(count) => write!(f, "(a pairing cannot have {count} words: it has triples, at most 1,024)"),
+            Fault::Unjudged => write!(
+                f,
+                "(the pair is apart, or has a section that the chart has not)"
+            ),
+            Fault::PairingCount(count) => write!(
+                f,
+                "(a pairing cannot have {count} words: it has triples, at most 1,024)"
+            ),
             Fault::Section(word) => write!(f, "(word {word} names no section)"),
-            Fault::Amount(word) => write!(f, "(word {word} is no amount from 1 to the parts of a row)"),
-            Fault::FirstMargin(u) => write!(f, "(the amounts at section {u} do not add up to its part)"),
-            Fault::SecondMargin(v) => write!(f, "(the amounts at section {v} do not add up to its part in the second row)"),
-            Fault::PotentialsCount(count) => write!(f, "(potentials cannot have {count} words: they have two for each section)"),
+            Fault::Amount(word) => write!(
+                f,
+                "(word {word} is no amount from 1 to the parts of a row)"
+            ),
+            Fault::FirstMargin(u) => write!(
+                f,
+                "(the amounts at section {u} do not add up to its part)"
+            ),
+            Fault::SecondMargin(v) => write!(
+                f,
+                "(the amounts at section {v} do not add up to its part in the second row)"
+            ),
+            Fault::PotentialsCount(count) => write!(
+                f,
+                "(potentials cannot have {count} words: they have two for each section)"
+            ),
             Fault::Range(word) => write!(f, "(word {word} is further from 0 than the top)"),
-            Fault::Above(pair) => write!(f, "(the potentials of the successors at place {pair} add up to more than their entry)"),
+            Fault::Above(pair) => write!(
+                f,
+                "(the potentials of the successors at place {pair} add up to more than their entry)"
+            ),
         }
     }
 }

@@ -19,9 +19,9 @@ ghost use Rattle.chain.specs.Pairing.{bad-word, word-fault, least-claim};
 ghost use Rattle.chain.specs.Meaning.{weighed};
 ghost use Rattle.weighted.specs.View.{chain};
 ghost use Rattle.weighted.specs.Gathering.{Reads, FirstBad, Gathers};
+use crate::chart::Weighted;
 use chain::fault::Fault;
 use chart::table::Table;
-use crate::chart::Weighted;
 
 /// The most words of a pairing.
 const LONGEST: usize = 3072;
@@ -42,7 +42,7 @@ struct Gathered {
 
 impl Weighted {
     /// Whether `(s, t)` is no judged pair.
-    fn unjudges(&self, s: usize, t: usize) -> bool
+    pub(super) fn unjudges(&self, s: usize, t: usize) -> bool
         ensures { λ r. ⌜ r ≡ unjudged (chain (now (self .entry))) s t ⌝ }
     {
         s >= self.n || t >= self.n || self.bands[s] != self.bands[t]

@@ -28,7 +28,7 @@ use Rattle.chain.specs.declared.fault.Fault.the-variants.{FirstMargin, SecondMa
 use Rattle.chain.specs.Chain.{Chain, unjudged}
 use Rattle.chain.specs.Pairing.{left, right, margin, cost, Pairing, pairing-fault, least-claim}
 use Rattle.chain.specs.Meaning.{answer}
-use Rattle.chain.proofs.Exits.{pairing-unjudged, pairing-count, pairing-word, pairing-left, pairing-right, pairing-valid}
+use Rattle.chain.proofs.Exits.{faulty, pairing-unjudged, pairing-count, pairing-word, pairing-left, pairing-right, pairing-valid}
 use Rattle.chain.proofs.Valid.{pairing-from}
 use Rattle.chain.proofs.Laws.{cost-most}
 use Rattle.weighted.specs.declared.chart.Weighted.{Weighted}
@@ -37,10 +37,6 @@ use Rattle.weighted.specs.Gathering.{Gathers}
 use Rattle.weighted.specs.View.{chain}
 use Rattle.weighted.proofs.Soundness.{sound}
 use Rattle.weighted.proofs.chart.Weighted.weigh_pairing.Needs as need
-
--- the fault, where there is one
-faulty : (o : Option Fault) (f : Fault) (claim : ℕ) → o ≡ Some f → answer (Some f) claim ≡ answer o claim
-faulty o f claim e = ap (λ o. answer o claim) (sym e)
 
 -- the search through the amounts that were added up is that through the margins
 same-search : (c : Chain) (s : ℕ) (ws : List ℤ) (side : List ℤ → ℕ → ℕ) (got : List ℕ) → c .n ≤ 32 → ((x : ℕ) → x < 32 → getD got x 0 ≡ margin side ws x)
