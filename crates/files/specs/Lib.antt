@@ -1,0 +1,6 @@
+pub mod Format
+pub mod Kinds
+pub mod Spans
+pub mod Headers
+pub mod Refusals
+pub mod Reading

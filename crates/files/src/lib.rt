@@ -1,0 +1,6 @@
+//! Chart files: the fields of a file's header, and the first reason why a file is not read.
+pub mod bytes;
+pub mod header;
+pub mod kind;
+pub mod refusal;
+mod span;

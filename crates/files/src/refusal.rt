@@ -1,0 +1,59 @@
+ghost use mathlib.Core.Path.{_≡_};
+ghost use Rattle.files.specs.Refusals.{number as number-of, place as place-of};
+
+/// Why a file is not read.
+#[derive(Clone, Copy, PartialEq, Eq, Debug)]
+pub enum ReadRefusal {
+    /// The file has fewer than 16 bytes; this is how many it has.
+    Short(usize),
+    /// The length field is not the file's size.
+    Length,
+    /// The file holds another kind of chart.
+    OtherKind,
+    /// The number of sections is not from 1 to 32.
+    Sections,
+    /// The discount a / b does not have 1 ≤ a < b ≤ 1000.
+    Discount,
+    /// The kind does not allow this whole.
+    Whole,
+    /// The bands do not lie wholly in the file after the header.
+    Bands,
+    /// The routes do not lie wholly in the file after the header, or share a byte with the bands.
+    Routes,
+    /// The row of this section does not add up to the whole.
+    Row(usize),
+}
+
+impl ReadRefusal {
+    /// The number of the check that failed.
+    pub fn number(&self) -> u16
+        ensures { λ r. ⌜ r ≡ number-of (now (self .entry)) ⌝ }
+    {
+        match self {
+            ReadRefusal::Short(_) | ReadRefusal::Length => 1,
+            ReadRefusal::OtherKind => 2,
+            ReadRefusal::Sections => 3,
+            ReadRefusal::Discount => 4,
+            ReadRefusal::Whole => 5,
+            ReadRefusal::Bands | ReadRefusal::Routes => 6,
+            ReadRefusal::Row(_) => 7,
+        }
+    }
+
+    /// The place of what is wrong: a file's size, a byte of its header, or a row.
+    pub fn place(&self) -> usize
+        ensures { λ r. ⌜ r ≡ place-of (now (self .entry)) ⌝ }
+    {
+        match self {
+            ReadRefusal::Short(size) => *size,
+            ReadRefusal::Length => 14,
+            ReadRefusal::OtherKind => 0,
+            ReadRefusal::Sections => 2,
+            ReadRefusal::Discount => 4,
+            ReadRefusal::Whole => 8,
+            ReadRefusal::Bands => 10,
+            ReadRefusal::Routes => 12,
+            ReadRefusal::Row(row) => *row,
+        }
+    }
+}
