@@ -3,4 +3,5 @@ pub mod Kinds
 pub mod Spans
 pub mod Headers
 pub mod Refusals
+pub mod Lines
 pub mod Reading

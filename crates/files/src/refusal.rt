@@ -1,5 +1,8 @@
 ghost use mathlib.Core.Path.{_≡_};
+ghost use Rattle.std.specs.declared.option.Option.the-variants.{Some};
 ghost use Rattle.files.specs.Refusals.{number as number-of, place as place-of};
+ghost use Rattle.files.specs.Lines.{words as words-of, line};
+use std::fmt;
 
 /// Why a file is not read.
 #[derive(Clone, Copy, PartialEq, Eq, Debug)]
@@ -55,5 +58,35 @@ impl ReadRefusal {
             ReadRefusal::Routes => 12,
             ReadRefusal::Row(row) => *row,
         }
+    }
+
+    /// What is wrong, in words.
+    pub fn words(&self) -> &'static str
+        ensures { λ r. ⌜ now r ≡ words-of (now (self .entry)) ⌝ }
+    {
+        match self {
+            ReadRefusal::Short(_) => "the file has fewer than 16 bytes",
+            ReadRefusal::Length => "the length field is not the size of the file",
+            ReadRefusal::OtherKind => "the file holds another kind of chart",
+            ReadRefusal::Sections => "the number of sections is not from 1 to 32",
+            ReadRefusal::Discount => "the discount a / b does not have 1 <= a < b <= 1000",
+            ReadRefusal::Whole => "the kind of chart does not allow this whole",
+            ReadRefusal::Bands => "the bands do not lie in the file",
+            ReadRefusal::Routes => {
+                "the routes do not lie in the file, or share a byte with the bands"
+            }
+            ReadRefusal::Row(_) => "a row does not add up to the whole",
+        }
+    }
+}
+
+pub impl fmt::Display for ReadRefusal as ReadRefusalDisplay {
+    ghost shown = { λ e. Some (line e) };
+
+    fn fmt<W: fmt::Write>(&self, f: &mut fmt::Formatter<W>) -> fmt::Result {
+        let number = self.number();
+        let place = self.place();
+        let words = self.words();
+        write!(f, "{number} {place} ({words})")
     }
 }
