@@ -1,3 +1,3 @@
-pub mod Spans
-pub mod Exits
+mod Spans
+mod Exits
 pub mod Reading

@@ -1,32 +1,34 @@
 -- What is known of a header that is read.
-use Prim.Native.Nat.{ℕ}
+use Prim.Native.Nat.{ℕ, _≤_}
 use native.Mathlib.Omega.{arith}
-use mathlib.Core.Path.{_≡_, refl, sym, ap, subst, _∙_}
-use mathlib.Core.Bool.{Bool, true, false, not, _&&_}
+use mathlib.Core.Path.{_≡_, refl, subst}
+use mathlib.Core.Bool.{Bool, true, not}
 use mathlib.Core.List.{List, [], _∷_}
-use lib.Dec.{leb, ltb, eqb}
+use lib.Dec.{ltb, eqb}
 use lib.ListN.{length}
 use Rattle.std.specs.declared.option.Option.{Option}
 use Rattle.std.specs.declared.option.Option.the-variants.{Some, None}
-use Rattle.std.specs.declared.result.Result.the-variants.{Ok, Err}
+use Rattle.std.specs.declared.result.Result.the-variants.{Ok}
 use Rattle.std.proofs.shelf.Tests.{not-false, and-parts, leb-true, ltb-true}
 use Rattle.finite.specs.Search.{given, first-of}
 use Rattle.finite.proofs.Search.{first-of-none, given-none}
 use Rattle.files.specs.declared.header.Header.{Header}
 use Rattle.files.specs.declared.kind.Kind.{Kind}
+use Rattle.files.specs.declared.kind.Kind.the-variants.{Weighted}
 use Rattle.files.specs.declared.refusal.ReadRefusal.{ReadRefusal}
 use Rattle.files.specs.declared.refusal.ReadRefusal.the-variants.{Short, Length, OtherKind, Sections, Discount, Whole, Bands, Routes}
 use Rattle.files.specs.Format.{kind-field, length-field}
 use Rattle.files.specs.Kinds.{code, whole-allowed}
 use Rattle.files.specs.Headers.{header-of, sections-allowed, discount-allowed, bands-span, routes-span}
-use Rattle.files.specs.Spans.{in-file, share-byte}
+use Rattle.files.specs.Spans.{in-file}
 use Rattle.files.specs.Refusals.{refusal-of, header-refusal}
 use Rattle.files.specs.Reading.{unless-refused, header-read, Fits}
 
--- a check that is passed, and that the others are
+-- where no check fails, the first does not, and none of the others
 passed : (b : Bool) (e : ReadRefusal) (os : List (Option ReadRefusal)) → first-of (given (not b) e ∷ os) ≡ None → (b ≡ true) × (first-of os ≡ None)
 passed b e os none = let p = first-of-none (given (not b) e) os none in (not-false b (given-none (not b) e (p .0)), p .1)
 
+-- a header that no check refuses
 pub fits-unrefused : (kind : Kind) (bs : List ℕ) → header-refusal kind bs ≡ None → Fits kind bs (header-of bs)
 unfolding refusal-of
 fits-unrefused kind bs none =
@@ -67,5 +69,10 @@ fits-from : (kind : Kind) (bs : List ℕ) (h : Header) (o : Option ReadRefusal) 
 fits-from kind bs h (Some e) refusal read = let z : _≡_ {A = ℕ} 0 1 = cc in absurd (omega arith)
 fits-from kind bs h None refusal read = let same : header-of bs ≡ h = cc in subst (Fits kind bs) same (fits-unrefused kind bs refusal)
 
+-- a header that is read
 pub fits-read : (kind : Kind) (bs : List ℕ) (h : Header) → header-read kind bs ≡ Ok h → Fits kind bs h
 fits-read kind bs h read = fits-from kind bs h (header-refusal kind bs) refl read
+
+-- what the whole of a weighted chart is
+pub weighted-whole : (bs : List ℕ) (h : Header) → Fits Weighted bs h → (1 ≤ h .whole) × (h .whole ≤ 10000)
+weighted-whole bs h fits = let p = and-parts _ _ (fits .allowed-whole) in (leb-true _ _ (p .0), leb-true _ _ (p .1))

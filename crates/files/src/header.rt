@@ -6,8 +6,16 @@ ghost use Rattle.files.specs.Refusals.{refusal-of};
 ghost use Rattle.files.specs.Reading.{header-read, Fits};
 use crate::bytes::field;
 use crate::kind::Kind;
+use crate::layout::BANDS_AT;
+use crate::layout::DENOMINATOR_AT;
+use crate::layout::HEADER_BYTES;
+use crate::layout::KIND_AT;
+use crate::layout::LENGTH_AT;
+use crate::layout::NUMERATOR_AT;
+use crate::layout::ROUTES_AT;
+use crate::layout::SECTIONS_AT;
+use crate::layout::WHOLE_AT;
 use crate::refusal::ReadRefusal;
-use crate::span::HEADER_BYTES;
 use crate::span::Span;
 
 /// What a file's header says of its chart.
@@ -32,12 +40,12 @@ impl Header {
         ensures { λ r. ⌜ r ≡ header-of (now (bytes .entry)) ⌝ }
     {
         Header {
-            sections: usize::from(field(bytes, 2)),
-            numerator: field(bytes, 4),
-            denominator: field(bytes, 6),
-            whole: field(bytes, 8),
-            bands_at: usize::from(field(bytes, 10)),
-            routes_at: usize::from(field(bytes, 12)),
+            sections: usize::from(field(bytes, SECTIONS_AT)),
+            numerator: field(bytes, NUMERATOR_AT),
+            denominator: field(bytes, DENOMINATOR_AT),
+            whole: field(bytes, WHOLE_AT),
+            bands_at: usize::from(field(bytes, BANDS_AT)),
+            routes_at: usize::from(field(bytes, ROUTES_AT)),
         }
     }
 
@@ -45,7 +53,7 @@ impl Header {
     fn allows_sections(self) -> bool
         ensures { λ r. ⌜ r ≡ sections-allowed (self .sections) ⌝ }
     {
-        self.sections >= 1 && self.sections <= 32
+        (1..=32).contains(&self.sections)
     }
 
     /// Whether a chart may have this discount.
@@ -84,10 +92,10 @@ fn find_refusal(bytes: &[u8], kind: Kind, header: Header) -> Option<ReadRefusal>
     if bytes.len() < HEADER_BYTES {
         return Some(ReadRefusal::Short(bytes.len()));
     }
-    if usize::from(field(bytes, 14)) != bytes.len() {
+    if usize::from(field(bytes, LENGTH_AT)) != bytes.len() {
         return Some(ReadRefusal::Length);
     }
-    if field(bytes, 0) != kind.code() {
+    if field(bytes, KIND_AT) != kind.code() {
         return Some(ReadRefusal::OtherKind);
     }
     if !header.allows_sections() {

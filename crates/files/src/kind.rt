@@ -23,7 +23,7 @@ impl Kind {
         ensures { λ r. ⌜ r ≡ whole-allowed self whole ⌝ }
     {
         match self {
-            Kind::Weighted => whole >= 1 && whole <= 10_000,
+            Kind::Weighted => (1..=10_000).contains(&whole),
         }
     }
 

@@ -2,5 +2,6 @@
 pub mod bytes;
 pub mod header;
 pub mod kind;
+mod layout;
 pub mod refusal;
 mod span;

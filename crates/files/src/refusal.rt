@@ -2,6 +2,13 @@ ghost use mathlib.Core.Path.{_≡_};
 ghost use Rattle.std.specs.declared.option.Option.the-variants.{Some};
 ghost use Rattle.files.specs.Refusals.{number as number-of, place as place-of};
 ghost use Rattle.files.specs.Lines.{words as words-of, line};
+use crate::layout::BANDS_AT;
+use crate::layout::KIND_AT;
+use crate::layout::LENGTH_AT;
+use crate::layout::NUMERATOR_AT;
+use crate::layout::ROUTES_AT;
+use crate::layout::SECTIONS_AT;
+use crate::layout::WHOLE_AT;
 use std::fmt;
 
 /// Why a file is not read.
@@ -49,13 +56,13 @@ impl ReadRefusal {
     {
         match self {
             ReadRefusal::Short(size) => *size,
-            ReadRefusal::Length => 14,
-            ReadRefusal::OtherKind => 0,
-            ReadRefusal::Sections => 2,
-            ReadRefusal::Discount => 4,
-            ReadRefusal::Whole => 8,
-            ReadRefusal::Bands => 10,
-            ReadRefusal::Routes => 12,
+            ReadRefusal::Length => LENGTH_AT,
+            ReadRefusal::OtherKind => KIND_AT,
+            ReadRefusal::Sections => SECTIONS_AT,
+            ReadRefusal::Discount => NUMERATOR_AT,
+            ReadRefusal::Whole => WHOLE_AT,
+            ReadRefusal::Bands => BANDS_AT,
+            ReadRefusal::Routes => ROUTES_AT,
             ReadRefusal::Row(row) => *row,
         }
     }

@@ -1,5 +1,6 @@
 ghost use mathlib.Core.Path.{_≡_};
 ghost use Rattle.files.specs.Spans.{in-file, share-byte};
+use crate::layout::HEADER_BYTES;
 
 /// Some bytes of a file, one after another.
 #[derive(Clone, Copy)]
@@ -7,9 +8,6 @@ pub struct Span {
     pub at: usize,
     pub size: usize,
 }
-
-/// The bytes that the header takes.
-pub const HEADER_BYTES: usize = 16;
 
 impl Span {
     /// Whether the bytes lie wholly in a file of `total` bytes, after its header.

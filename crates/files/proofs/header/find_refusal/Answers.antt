@@ -1,7 +1,4 @@
-use mathlib.Core.Path.{sym, ap, _∙_}
 use native.Mathlib.Omega.{arith}
-use lib.ListN.{length}
-use Rattle.files.specs.Spans.{in-file, share-byte}
 use Rattle.files.proofs.Exits.{short, other-length, other-kind, bad-sections, bad-discount, bad-whole, bands-outside, routes-outside, byte-shared, no-refusal}
 use Rattle.files.proofs.header.find_refusal.Needs as need
 use Rattle.files.proofs.header.find_refusal.Needs.{then-not-lies-in-2·by·then-not-lies-in-2, then-not-lies-in-2·by·else-not-lies-in-2·then-shares-byte}
@@ -16,23 +13,37 @@ pub returns-then-field-code : need.returns-then-field-code
 returns-then-field-code c = other-kind _ _ _ (c .if-bytes-lt-HEADER-BYTES .left) (omega arith) (λ e. c .if-field-code .taken (omega arith))
 
 pub returns-then-not-allows-sections : need.returns-then-not-allows-sections
-returns-then-not-allows-sections c = bad-sections _ _ _ (c .if-bytes-lt-HEADER-BYTES .left) (omega arith) (omega arith) (sym (c .if-not-allows-sections .ensures tt))
+returns-then-not-allows-sections c = bad-sections _ _ _ (c .if-bytes-lt-HEADER-BYTES .left) (omega arith) (omega arith) (c .if-not-allows-sections .ensures tt)
 
 pub returns-then-not-allows-discount : need.returns-then-not-allows-discount
-returns-then-not-allows-discount c = bad-discount _ _ _ (c .if-bytes-lt-HEADER-BYTES .left) (omega arith) (omega arith) (sym (c .if-not-allows-sections .ensures tt)) (sym (c .if-not-allows-discount .ensures tt))
+returns-then-not-allows-discount c =
+    bad-discount _ _ _ (c .if-bytes-lt-HEADER-BYTES .left) (omega arith) (omega arith)
+    (c .if-not-allows-sections .ensures tt) (c .if-not-allows-discount .ensures tt)
 
 pub returns-then-not-allows-whole : need.returns-then-not-allows-whole
-returns-then-not-allows-whole c = bad-whole _ _ _ (c .if-bytes-lt-HEADER-BYTES .left) (omega arith) (omega arith) (sym (c .if-not-allows-sections .ensures tt)) (sym (c .if-not-allows-discount .ensures tt)) (sym (c .if-not-allows-whole .ensures tt))
+returns-then-not-allows-whole c =
+    bad-whole _ _ _ (c .if-bytes-lt-HEADER-BYTES .left) (omega arith) (omega arith)
+    (c .if-not-allows-sections .ensures tt) (c .if-not-allows-discount .ensures tt) (c .if-not-allows-whole .ensures tt)
 
 pub returns-then-not-lies-in : need.returns-then-not-lies-in
-returns-then-not-lies-in c = bands-outside _ _ _ (c .if-bytes-lt-HEADER-BYTES .left) (omega arith) (omega arith) (sym (c .if-not-allows-sections .ensures tt)) (sym (c .if-not-allows-discount .ensures tt)) (sym (c .if-not-allows-whole .ensures tt)) (sym (c .if-not-lies-in .ensures tt ∙ ap (in-file _) (c .bands-bands .ensures)))
+returns-then-not-lies-in c =
+    bands-outside _ _ _ (c .if-bytes-lt-HEADER-BYTES .left) (omega arith) (omega arith)
+    (c .if-not-allows-sections .ensures tt) (c .if-not-allows-discount .ensures tt) (c .if-not-allows-whole .ensures tt)
+    (c .bands-bands .ensures) (c .if-not-lies-in .ensures tt)
 
 pub returns-then-not-lies-in-2 : need.returns-then-not-lies-in-2
 returns-then-not-lies-in-2 c =
     elim (c .then-not-lies-in-2 .came) [
-      | then-not-lies-in-2·by·then-not-lies-in-2 w ↦ routes-outside _ _ _ (c .if-bytes-lt-HEADER-BYTES .left) (omega arith) (omega arith) (sym (c .if-not-allows-sections .ensures tt)) (sym (c .if-not-allows-discount .ensures tt)) (sym (c .if-not-allows-whole .ensures tt)) (sym (c .if-not-lies-in .ensures tt ∙ ap (in-file _) (c .bands-bands .ensures))) (sym (w .if-not-lies-in-2 .ensures tt ∙ ap (in-file _) (c .routes-routes .ensures)))
-      | then-not-lies-in-2·by·else-not-lies-in-2·then-shares-byte w ↦ byte-shared _ _ _ (c .if-bytes-lt-HEADER-BYTES .left) (omega arith) (omega arith) (sym (c .if-not-allows-sections .ensures tt)) (sym (c .if-not-allows-discount .ensures tt)) (sym (c .if-not-allows-whole .ensures tt)) (sym (c .if-not-lies-in .ensures tt ∙ ap (in-file _) (c .bands-bands .ensures))) (sym (w .if-not-lies-in-2 .ensures tt ∙ ap (in-file _) (c .routes-routes .ensures))) (sym (w .if-shares-byte .ensures tt ∙ (λ i. share-byte (length (c .args .bytes .now)) (c .bands-bands .ensures i) (c .routes-routes .ensures i))))
+      | then-not-lies-in-2·by·then-not-lies-in-2 w ↦ routes-outside _ _ _ (c .if-bytes-lt-HEADER-BYTES .left) (omega arith) (omega arith)
+          (c .if-not-allows-sections .ensures tt) (c .if-not-allows-discount .ensures tt) (c .if-not-allows-whole .ensures tt)
+          (c .bands-bands .ensures) (c .if-not-lies-in .ensures tt) (c .routes-routes .ensures) (w .if-not-lies-in-2 .ensures tt)
+      | then-not-lies-in-2·by·else-not-lies-in-2·then-shares-byte w ↦ byte-shared _ _ _ (c .if-bytes-lt-HEADER-BYTES .left) (omega arith) (omega arith)
+          (c .if-not-allows-sections .ensures tt) (c .if-not-allows-discount .ensures tt) (c .if-not-allows-whole .ensures tt)
+          (c .bands-bands .ensures) (c .if-not-lies-in .ensures tt) (c .routes-routes .ensures) (w .if-not-lies-in-2 .ensures tt) (w .if-shares-byte .ensures tt)
     ]
 
 pub returns : need.returns
-returns c = no-refusal _ _ _ (c .if-bytes-lt-HEADER-BYTES .left) (omega arith) (omega arith) (sym (c .if-not-allows-sections .ensures tt)) (sym (c .if-not-allows-discount .ensures tt)) (sym (c .if-not-allows-whole .ensures tt)) (sym (c .if-not-lies-in .ensures tt ∙ ap (in-file _) (c .bands-bands .ensures))) (sym (c .if-not-lies-in-2 .ensures tt ∙ ap (in-file _) (c .routes-routes .ensures))) (sym (c .if-shares-byte .ensures tt ∙ (λ i. share-byte (length (c .args .bytes .now)) (c .bands-bands .ensures i) (c .routes-routes .ensures i))))
+returns c =
+    no-refusal _ _ _ (c .if-bytes-lt-HEADER-BYTES .left) (omega arith) (omega arith)
+    (c .if-not-allows-sections .ensures tt) (c .if-not-allows-discount .ensures tt) (c .if-not-allows-whole .ensures tt)
+    (c .bands-bands .ensures) (c .if-not-lies-in .ensures tt) (c .routes-routes .ensures) (c .if-not-lies-in-2 .ensures tt) (c .if-shares-byte .ensures tt)
