@@ -68,7 +68,7 @@ impl ReadRefusal {
     }
 
     /// What is wrong, in words.
-    pub fn words(&self) -> &'static str
+    fn words(&self) -> &'static str
         ensures { λ r. ⌜ now r ≡ words-of (now (self .entry)) ⌝ }
     {
         match self {
