@@ -1,5 +1,5 @@
 -- What is known of a header that is read.
-use Prim.Native.Nat.{ℕ, _≤_}
+use Prim.Native.Nat.{ℕ, _+_, _*_, _≤_, _<_}
 use native.Mathlib.Omega.{arith}
 use mathlib.Core.Path.{_≡_, refl, subst}
 use mathlib.Core.Bool.{Bool, true, not}
@@ -9,6 +9,7 @@ use lib.ListN.{length}
 use Rattle.std.specs.declared.option.Option.{Option}
 use Rattle.std.specs.declared.option.Option.the-variants.{Some, None}
 use Rattle.std.specs.declared.result.Result.the-variants.{Ok}
+use Rattle.std.proofs.shelf.Bits.{mul-add-lt}
 use Rattle.std.proofs.shelf.Tests.{not-false, and-parts, leb-true, ltb-true}
 use Rattle.finite.specs.Search.{given, first-of}
 use Rattle.finite.proofs.Search.{first-of-none, given-none}
@@ -76,3 +77,8 @@ fits-read kind bs h read = fits-from kind bs h (header-refusal kind bs) refl rea
 -- what the whole of a weighted chart is
 pub weighted-whole : (bs : List ℕ) (h : Header) → Fits Weighted bs h → (1 ≤ h .whole) × (h .whole ≤ 10000)
 weighted-whole bs h fits = let p = and-parts _ _ (fits .allowed-whole) in (leb-true _ _ (p .0), leb-true _ _ (p .1))
+
+-- both bytes of each part of a weighted chart's routes lie in the file
+pub part-inside : (bs : List ℕ) (h : Header) → Fits Weighted bs h → (s u : ℕ) → s < h .sections → u < h .sections
+    → h .«routes_at» + 2 * (s * h .sections + u) + 1 < length bs
+part-inside bs h fits s u hs hu = omega (arith, mul-add-lt s (h .sections) u (h .sections) hs hu, fits .routes-end)

@@ -5,6 +5,7 @@ ghost use Rattle.files.specs.Kinds.{code as code-of, whole-allowed, route-byte
 /// The kinds of chart that a file can hold.
 #[derive(Clone, Copy, PartialEq, Eq, Debug)]
 pub enum Kind {
+    /// Each section has a row of parts, which add up to the whole.
     Weighted,
 }
 
