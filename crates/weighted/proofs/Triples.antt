@@ -4,12 +4,10 @@ use mathlib.Core.Bool.{Bool, true, false, cond}
 use mathlib.Core.List.{List}
 use mathlib.Core.Logic.{⊎-elim}
 use Prim.Native.Nat.{ℕ, _+_, _*_, _%_, _≤_, _<_}
-use native.Mathlib.Nat.{mul-le-mul}
-use native.Mathlib.Numerals.{add-one}
 use native.Mathlib.Omega.{arith}
 use lib.Dec.{ltb}
 use lib.ListN.{length}
-use lib.IntN.{ℤ, pos, _+ℤ_, _*ℤ_}
+use lib.IntN.{ℤ, pos, _+ℤ_}
 use mir.Syntax.{w64}
 use mir.Val.{SFits, toZ, ofZ}
 use borrow.Author.Differences.{fits-in}
@@ -53,22 +51,13 @@ module _ (c : Chain) (ws : List ℤ) (j : ℕ) where
 pub clear-more : (c : Chain) (ws : List ℤ) (j : ℕ) → Clear c ws j → ((i : ℕ) → 3 * j ≤ i → i < 3 * j + 3 → bad-word c ws i ≡ false) → Clear c ws (j + 1)
 clear-more c ws j clear here i l = ⊎-elim (clear i) (λ k. here i k (omega arith)) (cases-lt i (3 * j))
 
--- an amount times an entry, added to a running sum, as the code computes it with 64 bits
-module _ (S a e : ℕ) (few : S ≤ 10240000000000000) (ha : a ≤ 10000) (he : e ≤ 1000000000) where
-  pub small : a * e ≤ 10000000000000
-  small = mul-le-mul ha he
+-- a cost, added to a running sum, as the code computes it with 64 bits
+module _ (S x : ℕ) (few : S ≤ 10240000000000000) (small : x ≤ 10000000000000) where
+  pub cost-is : toZ w64 x ≡ pos x
+  cost-is = toZ-pos w64 x (omega arith)
 
-  product : toZ w64 a *ℤ toZ w64 e ≡ pos (a * e)
-  product = rw (toZ-pos w64 a (omega arith), toZ-pos w64 e (omega arith))
+  pub sum-fits : SFits w64 (pos S +ℤ toZ w64 x)
+  sum-fits = rw cost-is (fits-in w64 (pos (S + x)) (omega arith))
 
-  pub product-fits : SFits w64 (toZ w64 a *ℤ toZ w64 e)
-  product-fits = rw product (fits-in w64 (pos (a * e)) (omega (arith, small)))
-
-  added : pos S +ℤ toZ w64 (ofZ w64 (toZ w64 a *ℤ toZ w64 e)) ≡ pos (S + a * e)
-  added = ap (λ z. pos S +ℤ z) (toZ-ofZ w64 (toZ w64 a *ℤ toZ w64 e) product-fits ∙ product)
-
-  pub sum-fits : SFits w64 (pos S +ℤ toZ w64 (ofZ w64 (toZ w64 a *ℤ toZ w64 e)))
-  sum-fits = rw added (fits-in w64 (pos (S + a * e)) (omega (arith, small)))
-
-  pub sum-is : toZ w64 (ofZ w64 (pos S +ℤ toZ w64 (ofZ w64 (toZ w64 a *ℤ toZ w64 e)))) ≡ pos (S + a * e)
-  sum-is = toZ-ofZ w64 (pos S +ℤ toZ w64 (ofZ w64 (toZ w64 a *ℤ toZ w64 e))) sum-fits ∙ added
+  pub sum-is : toZ w64 (ofZ w64 (pos S +ℤ toZ w64 x)) ≡ pos (S + x)
+  sum-is = toZ-ofZ w64 (pos S +ℤ toZ w64 x) sum-fits ∙ ap (λ z. pos S +ℤ z) cost-is

@@ -27,10 +27,20 @@ use chart::table::Table;
 const LONGEST: usize = 3072;
 
 /// A cell of a coupling, and its amount.
+#[derive(Clone, Copy)]
 struct Triple {
     u: usize,
     v: usize,
     amount: u32,
+}
+
+impl Triple {
+    /// The amount times the entry of its pair.
+    fn cost(&self, d: &Table) -> u64
+        ensures { λ r. ⌜ r ≡ now (self .entry) .amount * distances (now (d .entry)) .entry (now (self .entry) .u) (now (self .entry) .v) ⌝ }
+    {
+        self.amount as u64 * d.entry(self.u, self.v) as u64
+    }
 }
 
 /// What one pass over the triples of a pairing adds up: the amounts at each section on either side, and each amount times the entry of its pair.
@@ -92,10 +102,10 @@ impl Weighted {
         let mut right = [0u32; 32];
         let mut total: i64 = 0;
         for j in 0..words.len() / 3 {
-            let Triple { u, v, amount } = self.triple(words, j)?;
-            left[u] += amount;
-            right[v] += amount;
-            total += amount as i64 * d.entry(u, v) as i64;
+            let triple = self.triple(words, j)?;
+            left[triple.u] += triple.amount;
+            right[triple.v] += triple.amount;
+            total += triple.cost(d) as i64;
         }
         Ok(Gathered { left, right, total })
     }

@@ -1,8 +1,10 @@
 ghost use mathlib.Core.Path.{_≡_};
 ghost use Prim.Native.Nat.{ℕ, _+_, _*_, _/_, _%_, _≤_, _<_};
-ghost use lib.IntN.{pos, negℤ, _*ℤ_};
+ghost use mathlib.Core.Bool.{_&&_};
+ghost use lib.Dec.{ltb};
+ghost use lib.IntN.{pos, negℤ, _+ℤ_, _*ℤ_};
 ghost use lib.ListN.{length};
-ghost use lib.Signed.{_≤ℤ_};
+ghost use lib.Signed.{ltZ, _≤ℤ_};
 ghost use Rattle.finite.specs.Sums.{sumℤ};
 ghost use Rattle.finite.specs.Search.{least};
 ghost use Rattle.chart.specs.Tables.{distances};
@@ -29,6 +31,13 @@ fn find_wide(words: &[i32], top: u32) -> Option<usize>
     None
 }
 
+/// Whether two sections are both successors, and their potentials add up to more than the entry of their pair.
+fn comes_above(part: u16, other: u16, alpha: i32, beta: i32, entry: u32) -> bool
+    ensures { λ r. ⌜ r ≡ (ltb 0 part && (ltb 0 other && ltZ (pos entry) (alpha +ℤ beta))) ⌝ }
+{
+    part > 0 && other > 0 && alpha as i64 + beta as i64 > entry as i64
+}
+
 impl Weighted {
     /// The place of the first pair of successors, by `u` and then by `v`, whose potentials add up to more than its entry.
     fn find_above(&self, d: &Table, s: usize, t: usize, words: &[i32]) -> Option<usize>
@@ -41,9 +50,13 @@ impl Weighted {
                 continue;
             }
             for v in 0..self.n {
-                if self.rows[t][v] > 0
-                    && words[u] as i64 + words[self.n + v] as i64 > d.entry(u, v) as i64
-                {
+                if comes_above(
+                    self.rows[s][u],
+                    self.rows[t][v],
+                    words[u],
+                    words[self.n + v],
+                    d.entry(u, v),
+                ) {
                     found = Some(u * self.n + v);
                     break 'scan;
                 }

@@ -1,16 +1,28 @@
-use mathlib.Core.Path.{_≡_, sym, _∙_}
-use mathlib.Core.Bool.{Bool}
-use Prim.Native.Nat.{ℕ}
-use native.Mathlib.Omega.{arith}
+use mathlib.Core.Path.{_≡_, sym, ap, _∙_}
+use mathlib.Core.Bool.{Bool, true, false, _&&_}
+use mathlib.Core.List.{List}
+use Prim.Native.Nat.{ℕ, _+_}
+use lib.Dec.{ltb}
+use lib.IntN.{ℤ, pos, _+ℤ_}
+use lib.Signed.{ltZ}
+use mir.Syntax.{w32}
+use mir.Val.{SFits, toZ, ofZ}
 use borrow.Author.Needs.{needs}
-use borrow.Author.Differences.{ints}
+use Rattle.std.proofs.shelf.Signed.{toZ-ofZ}
+use Rattle.chart.specs.Distances.{Distances}
 use Rattle.chart.specs.Tables.{distances}
+use Rattle.chain.specs.Chain.{Chain}
+use Rattle.chain.specs.Words.{word}
 use Rattle.chain.specs.Potentials.{above}
-use Rattle.chain.proofs.Valid.{above-flat, above-first, above-second, above-here}
+use Rattle.chain.proofs.Valid.{above-first}
 use Rattle.weighted.specs.View.{chain}
-use Rattle.weighted.proofs.Scan.{clear-cell, clear-row, clear-skip, scan-none, scan-found}
+use Rattle.weighted.proofs.Scan.{clear-cell, clear-skip, scan-none, scan-found}
 use Rattle.weighted.proofs.chart.Weighted.find_above.Needs as need
-use Rattle.weighted.proofs.chart.Weighted.find_above.Needs.{else-self-t-gt0·by·then-self-t-gt0·else-words-u, else-self-t-gt0·by·else-self-t-gt0}
+
+-- what the test of one pair answers is whether its potentials come above its entry
+tested : (c : Chain) (d : Distances) (s t : ℕ) (ws : List ℤ) (u v e : ℕ) (b : Bool) → e ≡ d .entry u v → SFits w32 (word ws u) → SFits w32 (word ws (c .n + v))
+    → b ≡ (ltb 0 (c .part s u) && (ltb 0 (c .part t v) && ltZ (pos e) (toZ w32 (ofZ w32 (word ws u)) +ℤ toZ w32 (ofZ w32 (word ws (c .n + v)))))) → above c d s t ws u v ≡ b
+tested c d s t ws u v e b entry f g h = sym (rw (entry, toZ-ofZ w32 (word ws u) f, toZ-ofZ w32 (word ws (c .n + v)) g) at h)
 
 pub scan-again-then-self-s-eq0 : need.scan-again-then-self-s-eq0
 scan-again-then-self-s-eq0 c =
@@ -19,28 +31,31 @@ scan-again-then-self-s-eq0 c =
     let bad : ℕ → ℕ → Bool = above w d (c .args .s) (c .args .t) (c .args .words .now) in
     (c .scan .inv .0, clear-skip (c .args .self .now .n) bad (c .scan .u) (c .scan .inv .1) (λ v. above-first w d (c .args .s) (c .args .t) (c .args .words .now) (c .scan .u) v (c .if-self-s-eq0 .taken)))
 
+pub loop-v-again : need.loop-v-again
+loop-v-again c =
+    let w = chain (c .args .self .now) in
+    let d = distances (c .args .d .now) in
+    let ws = c .args .words .now in
+    let bad : ℕ → ℕ → Bool = above w d (c .args .s) (c .args .t) ws in
+    let f : SFits w32 (word ws (c .scan .u)) = search needs in
+    let g : SFits w32 (word ws (c .args .self .now .n + c .loop-v .v)) = search needs in (
+      c .loop-v .inv .0,
+      clear-cell (c .args .self .now .n) bad (c .scan .u) (c .loop-v .v) (c .loop-v-test .taken) (c .loop-v .inv .1)
+          (tested w d (c .args .s) (c .args .t) ws (c .scan .u) (c .loop-v .v) (c .entry .result) false (c .entry .ensures) f g (c .if-comes-above .ensures tt)),
+    )
+
 pub returns-after-scan : need.returns-after-scan
 returns-after-scan c =
     let bad : ℕ → ℕ → Bool = above (chain (c .args .self .now)) (distances (c .args .d .now)) (c .args .s) (c .args .t) (c .args .words .now) in
     c .scan .inv .0 ∙ sym (scan-none (c .args .self .now .n) bad (c .scan .u) (c .scan-test .left) (c .scan .inv .1))
 
-pub loop-v-again : need.loop-v-again
-loop-v-again c =
+pub returns-then-comes-above : need.returns-then-comes-above
+returns-then-comes-above c =
     let w = chain (c .args .self .now) in
     let d = distances (c .args .d .now) in
-    let bad : ℕ → ℕ → Bool = above w d (c .args .s) (c .args .t) (c .args .words .now) in (
-      c .loop-v .inv .0,
-      clear-cell (c .args .self .now .n) bad (c .scan .u) (c .loop-v .v) (c .loop-v-test .taken) (c .loop-v .inv .1)
-          (elim (c .else-self-t-gt0 .came) [
-            | else-self-t-gt0·by·then-self-t-gt0·else-words-u x ↦ above-flat w d (c .args .s) (c .args .t) (c .args .words .now) (c .scan .u) (c .loop-v .v) (rw (sym (x .entry .ensures)) (omega (arith, ints)))
-            | else-self-t-gt0·by·else-self-t-gt0 x ↦ above-second w d (c .args .s) (c .args .t) (c .args .words .now) (c .scan .u) (c .loop-v .v) (omega (arith, x .if-self-t-gt0 .left))
-          ]),
-    )
-
-pub returns-then-words-u : need.returns-then-words-u
-returns-then-words-u c =
-    let w = chain (c .args .self .now) in
-    let d = distances (c .args .d .now) in
-    let bad : ℕ → ℕ → Bool = above w d (c .args .s) (c .args .t) (c .args .words .now) in
+    let ws = c .args .words .now in
+    let bad : ℕ → ℕ → Bool = above w d (c .args .s) (c .args .t) ws in
+    let f : SFits w32 (word ws (c .scan .u)) = search needs in
+    let g : SFits w32 (word ws (c .args .self .now .n + c .loop-v .v)) = search needs in
     sym (scan-found (c .args .self .now .n) bad (c .scan .u) (c .loop-v .v) (c .scan-test .taken) (c .loop-v-test .taken) (c .loop-v .inv .1)
-    (above-here w d (c .args .s) (c .args .t) (c .args .words .now) (c .scan .u) (c .loop-v .v) (omega (arith, c .if-self-s-eq0 .left)) (c .if-self-t-gt0 .taken) (rw (sym (c .entry .ensures)) (omega (arith, ints)))))
+    (tested w d (c .args .s) (c .args .t) ws (c .scan .u) (c .loop-v .v) (c .entry .result) true (c .entry .ensures) f g (c .if-comes-above .ensures tt)))

@@ -3,9 +3,12 @@ use mathlib.Core.Bool.{cond}
 use lib.Dec.{eqb}
 use lib.IntN.{pos}
 use Prim.Native.Nat.{ℕ, _+_, _*_, _≤_, _<_}
+use native.Mathlib.Nat.{mul-le-mul}
 use native.Mathlib.Numerals.{add-one}
 use native.Mathlib.Omega.{arith}
+use mir.Syntax.{w64}
 use borrow.Author.Needs.{needs}
+use borrow.Author.Differences.{fits-in}
 use Rattle.std.proofs.shelf.Results.{err-from-errBy}
 use Rattle.finite.specs.Sums.{sum}
 use Rattle.chart.specs.Tables.{distances}
@@ -13,50 +16,49 @@ use Rattle.chart.proofs.Bounds.{entry-most}
 use Rattle.chain.specs.Pairing.{left, right, amount, triples}
 use Rattle.weighted.specs.View.{chain}
 use Rattle.weighted.proofs.Tally.{tallied-none, tallied-more}
-use Rattle.weighted.proofs.Triples.{bad-found, none-bad, clear-more, small, product-fits, sum-fits, sum-is}
+use Rattle.weighted.proofs.Triples.{bad-found, none-bad, clear-more, sum-fits, sum-is}
 use Rattle.weighted.proofs.chart.Weighted.gather.Needs as need
 
 pub loop-j-holds : need.loop-j-holds
 loop-j-holds c =
     (λ i l. absurd (omega arith), tallied-none (left (c .args .words .now)) (amount (c .args .words .now)), tallied-none (right (c .args .words .now)) (amount (c .args .words .now)), refl, omega arith)
 
-pub returns-in-Break-u : need.returns-in-Break-u
-returns-in-Break-u c =
+pub returns-in-Break-triple : need.returns-in-Break-triple
+returns-in-Break-triple c =
     let p = err-from-errBy (c .from-residual .result) (c .from-residual .ensures .1) in
-    rw (p .1, p .2) (bad-found (chain (c .args .self .now)) (c .args .words .now) (c .loop-j .j) _ (c .loop-j-test .taken) (c .loop-j .inv .0) (c .in-Break-u .ensures tt))
+    rw (p .1, p .2) (bad-found (chain (c .args .self .now)) (c .args .words .now) (c .loop-j .j) _ (c .loop-j-test .taken) (c .loop-j .inv .0) (c .in-Break-triple .ensures tt))
 
 -- the running sum of amount × entry
-abbrev so-far : need.After-entry → ℕ
+abbrev so-far : need.After-cost → ℕ
 so-far c = sum (c .loop-j .j) (λ j. amount (c .args .words .now) j * distances (c .args .d .now) .entry (left (c .args .words .now) j) (right (c .args .words .now) j))
 
-so-far-few : (c : need.After-entry) → so-far c ≤ 10240000000000000
+so-far-few : (c : need.After-cost) → so-far c ≤ 10240000000000000
 so-far-few c = omega (arith, c .loop-j .inv .4, c .loop-j-test .taken, c .pre .1)
 
-entry-few : (c : need.After-entry) → c .entry .result ≤ 1000000000
-entry-few c = rw (c .entry .ensures) (entry-most (c .args .d .now) (c .in-Continue-u .field-0 .u) (c .in-Continue-u .field-0 .v))
+cost-few : (c : need.After-cost) → c .cost .result ≤ 10000000000000
+cost-few c =
+    let r = c .in-Continue-triple .ensures tt in
+    rw (c .cost .ensures) (mul-le-mul (r .few) (entry-most (c .args .d .now) (c .in-Continue-triple .triple .u) (c .in-Continue-triple .triple .v)))
 
-pub mul-total : need.mul-total
-mul-total c = product-fits (so-far c) (c .in-Continue-u .field-0 .amount) (c .entry .result) (so-far-few c) (c .in-Continue-u .ensures tt .few) (entry-few c)
+pub cast-total : need.cast-total
+cast-total c = fits-in w64 (pos (c .cost .result)) (omega (arith, cost-few c))
 
 pub add-total : need.add-total
-add-total c =
-    rw (c .loop-j .inv .3)
-    (sum-fits (so-far c) (c .in-Continue-u .field-0 .amount) (c .entry .result) (so-far-few c) (c .in-Continue-u .ensures tt .few) (entry-few c))
+add-total c = rw (c .loop-j .inv .3) (sum-fits (so-far c) (c .cost .result) (so-far-few c) (cost-few c))
 
 pub loop-j-again : need.loop-j-again
 loop-j-again c =
-    let r = c .in-Continue-u .ensures tt in
+    let r = c .in-Continue-triple .ensures tt in
     let ws = c .args .words .now in
     let w = c .args .self .now in
     let j = c .loop-j .j in
-    let next : so-far c + c .in-Continue-u .field-0 .amount * c .entry .result ≡ sum (j + 1) (λ j. amount ws j * distances (c .args .d .now) .entry (left ws j) (right ws j))
-    = rw (add-one j, c .entry .ensures, r .first, r .second, r .third) refl in
-    let total = sum-is (so-far c) (c .in-Continue-u .field-0 .amount) (c .entry .result) (so-far-few c) (r .few) (entry-few c) in (
+    let next : so-far c + c .cost .result ≡ sum (j + 1) (λ j. amount ws j * distances (c .args .d .now) .entry (left ws j) (right ws j))
+    = rw (add-one j, c .cost .ensures, r .first, r .second, r .third) refl in (
       clear-more (chain w) ws j (c .loop-j .inv .0) (r .good),
       rw (r .first, r .third) (tallied-more (c .loop-j .left) (left ws) (amount ws) j (c .loop-j .inv .1) (omega (arith, r .first, r .first-in, w .«n_most»)) (omega (arith, r .third, r .few))),
       rw (r .second, r .third) (tallied-more (c .loop-j .right) (right ws) (amount ws) j (c .loop-j .inv .2) (omega (arith, r .second, r .second-in, w .«n_most»)) (omega (arith, r .third, r .few))),
-      rw (c .loop-j .inv .3) (total ∙ ap pos next),
-      rw (← next) (omega (arith, c .loop-j .inv .4, small (so-far c) (c .in-Continue-u .field-0 .amount) (c .entry .result) (so-far-few c) (r .few) (entry-few c))),
+      rw (c .loop-j .inv .3) (sum-is (so-far c) (c .cost .result) (so-far-few c) (cost-few c) ∙ ap pos next),
+      rw (← next) (omega (arith, c .loop-j .inv .4, cost-few c)),
     )
 
 end : (c : need.After-loop-j) → c .loop-j .j ≡ triples (c .args .words .now)
