@@ -5,13 +5,16 @@ use mathlib.Core.Path.{_≡_, refl, sym, ap, _∙_}
 use mathlib.Core.Bool.{Bool, true, false, cond}
 use mathlib.Core.Logic.{⊎-elim}
 use mathlib.Core.List.{List, [], _∷_}
-use lib.ListN.{length, getD, drop}
+use borrow.Author.Needs.{needs}
+use lib.IntN.{ℤ, pos, negℤ}
+use lib.ListN.{length, getD, take, drop}
+use Rattle.std.specs.Options.{mapped}
 use Rattle.std.specs.Text.{asciiDigit}
 use Rattle.std.specs.declared.option.Option.{Option}
 use Rattle.std.specs.declared.option.Option.the-variants.{Some, None}
-use Rattle.std.proofs.shelf.Lists.{at-drop-more, at-drop-all}
-use Rattle.std.proofs.shelf.Tests.{cases-bool, lt-leb, le-leb}
-use Rattle.lines.specs.Numerals.{digits-after, numeral, at-most}
+use Rattle.std.proofs.shelf.Lists.{at-drop-more, at-drop-all, take-rest}
+use Rattle.std.proofs.shelf.Tests.{cases-bool, lt-leb, le-leb, leb-true, eq-eqb}
+use Rattle.lines.specs.Numerals.{digits-after, numeral, at-most, word}
 
 -- a value never falls, so that too great a start is too great
 pub too-great : (most n : ℕ) (bs : List ℕ) → most < n → at-most most (digits-after n bs) ≡ None
@@ -34,10 +37,12 @@ pub digits-all : (most n : ℕ) (bs : List ℕ) (i : ℕ) → n ≤ most → len
 unfolding digits-after
 digits-all most n bs i small h = ap (at-most most) (at-drop-all (digits-after n) bs i h) ∙ rw (le-leb n most small) refl
 
-pub numeral-some : (bs : List ℕ) → 0 < length bs → digits-after 0 bs ≡ numeral bs
-numeral-some [] h = absurd (omega arith)
-numeral-some (b ∷ bs) h = refl
+pub at-most-bound : (most n : ℕ) (o : Option ℕ) → Some n ≡ at-most most o → n ≤ most
+at-most-bound most n o e = search (needs, leb-true)
 
-pub numeral-none : (bs : List ℕ) → length bs ≡ 0 → numeral bs ≡ None
-numeral-none [] h = refl
-numeral-none (b ∷ bs) h = absurd (omega arith)
+-- a word that begins with a minus
+pub word-minus : (bs : List ℕ) → getD bs 0 0 ≡ 45 → (o : Option ℕ)
+    → o ≡ at-most 2147483648 (numeral (take (length bs - 1) (drop 1 bs))) → word bs ≡ mapped (λ n. negℤ (pos n)) o
+word-minus [] minus o e = absurd (omega arith)
+word-minus (b ∷ bs) minus o e =
+    rw (eq-eqb b 45 minus) (ap (mapped (λ n. negℤ (pos n))) (sym (e ∙ ap (λ l. at-most 2147483648 (numeral l)) (take-rest (b ∷ bs) 1))))
