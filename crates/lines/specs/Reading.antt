@@ -5,7 +5,7 @@ use mathlib.Core.List.{List, [], _∷_}
 use lib.Dec.{eqb}
 use lib.Chars.{codes}
 use lib.IntN.{ℤ}
-use lib.ListN.{drop}
+use lib.ListN.{drop, getD}
 use Rattle.std.specs.Options.{okOr}
 use Rattle.std.specs.shelf.Text.{sameBytes}
 use Rattle.std.specs.declared.option.Option.{Option}
@@ -30,31 +30,35 @@ abbrev pub _then_ : {X Y : Type 0} → Result X Malformed → (X → Result Y Ma
 abbrev pub side : List ℕ → Option Side
 side f = cond (sameBytes f (codes "upper")) (Some Upper) (cond (sameBytes f (codes "lower")) (Some Lower) None)
 
--- what the first of the fields says
+-- what the first of the fields says, as `says` reads it
 abbrev pub first : {X : Type 0} → (List ℕ → Option X) → Malformed → List (List ℕ) → Result X Malformed
 first says wrong [] = Err TooFewFields
 first says wrong (f ∷ fs) = okOr (says f) wrong
+
+-- what field k says
+abbrev pub field : {X : Type 0} → ℕ → (List ℕ → Option X) → (ℕ → Malformed) → List (List ℕ) → Result X Malformed
+field k says wrong fs = first says (wrong k) (drop k fs)
 
 -- the words that the fields write; k is the number of the first
 unfoldable pub words-from : ℕ → List (List ℕ) → Result (List ℤ) Malformed
 words-from k [] = Ok []
 words-from k (f ∷ fs) = okOr (word f) (NotAWord k) then λ w. words-from (k + 1) fs then λ ws. Ok (w ∷ ws)
 
--- field 0 is the command, field 1 the side, fields 2 and 3 are the sections, and the others are words
-abbrev pub words : List (List ℕ) → Result (List ℤ) Malformed
-words fs = words-from 0 (drop 4 fs)
+-- the words of a weighing
+abbrev pub weigh-words : List (List ℕ) → Result (List ℤ) Malformed
+weigh-words fs = words-from 0 (drop 4 fs)
 
+-- a weighing: the command, a side, two sections and words
 abbrev pub weigh-read : List (List ℕ) → Result (Option Command) Malformed
 weigh-read fs =
-    first side (NotASide 1) (drop 1 fs) then λ side.
-    first number (NotANumber 2) (drop 2 fs) then λ s.
-    first number (NotANumber 3) (drop 3 fs) then λ t.
-    words fs then λ ws. Ok (Some (Weigh side s t))
+    field 1 side NotASide fs then λ side.
+    field 2 number NotANumber fs then λ s.
+    field 3 number NotANumber fs then λ t.
+    weigh-words fs then λ ws. Ok (Some (Weigh side s t))
 
--- whether a line that begins with this field is passed over
+-- whether a line whose first field is this one is passed over: it begins with #
 abbrev pub comment : List ℕ → Bool
-comment [] = false
-comment (b ∷ bs) = eqb b 35
+comment f = eqb (getD f 0 0) 35
 
 abbrev pub fields-read : List (List ℕ) → Result (Option Command) Malformed
 fields-read [] = Ok None
@@ -63,3 +67,7 @@ fields-read (f ∷ fs) = cond (comment f) (Ok None) (cond (sameBytes f (codes "w
 -- nothing for a line that is passed over; of several things that are wrong, the first in the line
 abbrev pub line-read : List ℕ → Result (Option Command) Malformed
 line-read bs = fields-read (fields bs)
+
+-- the words of a line that asks for a weighing
+abbrev pub line-words : List ℕ → Result (List ℤ) Malformed
+line-words bs = weigh-words (fields bs)

@@ -4,6 +4,6 @@
 //! or whose first field begins with `#`, is passed over.
 pub mod command;
 mod fields;
-pub mod malformed;
 pub mod line;
+pub mod malformed;
 mod numerals;

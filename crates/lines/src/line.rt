@@ -1,5 +1,5 @@
 ghost use mathlib.Core.Path.{_≡_};
-ghost use mathlib.Core.List.{_++_};
+ghost use mathlib.Core.List.{[], _∷_};
 ghost use mathlib.Core.Logic.{_⊎_};
 ghost use Prim.Native.Nat.{ℕ};
 ghost use lib.ListN.{length, drop};
@@ -8,12 +8,16 @@ ghost use Rattle.std.specs.Results.{Cases};
 ghost use Rattle.std.specs.shelf.Text.{sameBytes};
 ghost use Rattle.lines.specs.Fields.{fields};
 ghost use Rattle.lines.specs.Numerals.{number};
-ghost use Rattle.lines.specs.Reading.{first, side};
-ghost use Rattle.lines.specs.declared.malformed.Malformed.the-variants.{NotASide, NotANumber};
+ghost use Rattle.lines.specs.Reading.{comment, first, line-read, line-words, side, weigh-read, weigh-words, words-from};
+ghost use Rattle.lines.specs.declared.malformed.Malformed.the-variants.{Memory, NotASide, NotANumber};
+ghost use Rattle.std.specs.declared.option.Option.the-variants.{Some, None};
 ghost use Rattle.std.specs.declared.result.Result.the-variants.{Ok, Err};
+use crate::command::Command;
 use crate::fields::split_field;
 use crate::malformed::Malformed;
+use crate::malformed::MalformedFromRefused;
 use crate::numerals::read_number;
+use crate::numerals::read_word;
 use chart::side::Side;
 
 /// Whether a field has just these bytes.
@@ -63,5 +67,120 @@ fn number_field(bytes: &[u8], k: usize) -> Result<(u32, &[u8]), Malformed>
     match read_number(field) {
         Some(value) => Ok((value, rest)),
         None => Err(Malformed::NotANumber(k)),
+    }
+}
+
+/// Reads the words that all fields write into `words`, which is empty.
+fn read_words(bytes: &[u8], words: &mut Vec<i32>) -> Result<(), Malformed>
+    requires { ⌜ vec-items (now words) ≡ [] ⌝ }
+    ensures { λ r. ⌜ Cases r
+        (λ _. words-from 0 (fields (now (bytes .entry))) ≡ Ok (vec-items (now (words .exit))))
+        (λ e. (e ≡ Memory) ⊎ (words-from 0 (fields (now (bytes .entry))) ≡ Err e)) ⌝ }
+{
+    let mut rest = bytes;
+    while let Some((field, after)) = split_field(rest) {
+        let Some(word) = read_word(field) else {
+            return Err(Malformed::NotAWord(words.len()));
+        };
+        words.push(word)?;
+        rest = after;
+    }
+    Ok(())
+}
+
+/// Reads the fields of a weighing, from the side on, its words into `words`, which is empty.
+fn read_weigh(bytes: &[u8], words: &mut Vec<i32>) -> Result<Command, Malformed>
+    requires { ⌜ vec-items (now words) ≡ [] ⌝ }
+    ensures { λ r. ⌜ Cases r
+        (λ c. (weigh-read ([] ∷ fields (now (bytes .entry))) ≡ Ok (Some c)) × (weigh-words ([] ∷ fields (now (bytes .entry))) ≡ Ok (vec-items (now (words .exit)))))
+        (λ e. (e ≡ Memory) ⊎ (weigh-read ([] ∷ fields (now (bytes .entry))) ≡ Err e)) ⌝ }
+{
+    let (side, rest) = side_field(bytes, 1)?;
+    let (s, rest) = number_field(rest, 2)?;
+    let (t, rest) = number_field(rest, 3)?;
+    read_words(rest, words)?;
+    Ok(Command::Weigh { side, s, t })
+}
+
+/// Whether a line is passed over that begins with this field.
+fn is_comment(field: &[u8]) -> bool
+    ensures { λ r. ⌜ r ≡ comment (now (field .entry)) ⌝ }
+{
+    if field.is_empty() {
+        return false;
+    }
+    field[0] == b'#'
+}
+
+/// Reads one line. Its words, where it has some, go into `words`, which is cleared first.
+///
+/// A line that is passed over asks for nothing. Of several things that are wrong, the answer is the first in the line.
+pub fn read_line(line: &[u8], words: &mut Vec<i32>) -> Result<Option<Command>, Malformed>
+    ensures command { λ r. ⌜ (r ≡ Err Memory) ⊎ (r ≡ line-read (now (line .entry))) ⌝ }
+    ensures words { λ r. ⌜ ((c : Command) → r ≡ Ok (Some c) → line-words (now (line .entry)) ≡ Ok (vec-items (now (words .exit)))) ⌝ }
+{
+    words.clear();
+    let Some((name, rest)) = split_field(line) else {
+        return Ok(None);
+    };
+    if is_comment(name) {
+        return Ok(None);
+    }
+    if is_text(name, b"weigh") {
+        return Ok(Some(read_weigh(rest, words)?));
+    }
+    Err(Malformed::UnknownCommand)
+}
+
+#[cfg(test)]
+mod tests {
+    use super::*;
+    use crate::command::CommandDebug;
+    use crate::command::CommandPartialEq;
+    use crate::malformed::MalformedDebug;
+    use crate::malformed::MalformedPartialEq;
+    use std::test::*;
+
+    #[test]
+    fn reads_weighings(rt: LibcRuntime) -> Result<(), Fail> {
+        let mut words = Vec::new(rt.alloc());
+        let command = read_line(b"\tweigh lower  4294967295 007\r -2147483648 2147483647 -0\r", &mut words)?;
+        let (side, s, t) = (Side::Lower, 4294967295, 7);
+        check_eq(command, Some(Command::Weigh { side, s, t }))?;
+        check(words.as_slice() == &[-2147483648, 2147483647, 0])?;
+        let command = read_line(b"weigh upper 0 3", &mut words)?;
+        let (side, s, t) = (Side::Upper, 0, 3);
+        check_eq(command, Some(Command::Weigh { side, s, t }))?;
+        check(words.is_empty())
+    }
+
+    #[test]
+    fn passes_over(rt: LibcRuntime) -> Result<(), Fail> {
+        let mut words = Vec::new(rt.alloc());
+        check_eq(read_line(b"", &mut words)?, None)?;
+        check_eq(read_line(b" \t\r", &mut words)?, None)?;
+        check_eq(read_line(b"#weigh upper x", &mut words)?, None)?;
+        check_eq(read_line(b"  # ?", &mut words)?, None)
+    }
+
+    #[test]
+    fn refuses_commands_and_fields(rt: LibcRuntime) -> Result<(), Fail> {
+        let mut words = Vec::new(rt.alloc());
+        check_eq(read_line(b"Weigh upper 0 3", &mut words), Err(Malformed::UnknownCommand))?;
+        check_eq(read_line(b"weighs", &mut words), Err(Malformed::UnknownCommand))?;
+        check_eq(read_line(b"weigh upper 0", &mut words), Err(Malformed::TooFewFields))?;
+        check_eq(read_line(b"weigh under x", &mut words), Err(Malformed::NotASide(1)))?;
+        check_eq(read_line(b"weigh upper +1 x", &mut words), Err(Malformed::NotANumber(2)))?;
+        check_eq(read_line(b"weigh upper 0 4294967296", &mut words), Err(Malformed::NotANumber(3)))
+    }
+
+    #[test]
+    fn refuses_words(rt: LibcRuntime) -> Result<(), Fail> {
+        let mut words = Vec::new(rt.alloc());
+        check_eq(read_line(b"weigh upper 0 3 -", &mut words), Err(Malformed::NotAWord(0)))?;
+        check_eq(read_line(b"weigh upper 0 3 1 --1", &mut words), Err(Malformed::NotAWord(1)))?;
+        check_eq(read_line(b"weigh upper 0 3 2147483648", &mut words), Err(Malformed::NotAWord(0)))?;
+        check_eq(read_line(b"weigh upper 0 3 -2147483649", &mut words), Err(Malformed::NotAWord(0)))?;
+        check_eq(read_line(b"weigh upper 0 3 1x", &mut words), Err(Malformed::NotAWord(0)))
     }
 }

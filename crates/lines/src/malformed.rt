@@ -30,7 +30,10 @@ pub impl fmt::Display for Malformed as MalformedDisplay {
                 write!(f, "field {k} is not a whole number from 0 to 4294967295")
             }
             Malformed::NotAWord(k) => {
-                write!(f, "word {k} is not a whole number from -2147483648 to 2147483647")
+                write!(
+                    f,
+                    "word {k} is not a whole number from -2147483648 to 2147483647"
+                )
             }
             Malformed::Memory => write!(f, "there is no memory for its words"),
         }

@@ -20,8 +20,7 @@ pub returns : need.returns
 returns c =
     let some : 0 < length (c .split-at .result .1 .now) = omega (arith, false-eqb _ 0 (c .if-is-empty .ensures tt)) in
     let first : 0 < c .run-len-2 .result = not-empty _ _ _ _ (c .split-at .ensures .back) some (c .run-len .ensures .stops) (c .run-len-2 .ensures .stops) in
-    let parts = c .split-at-2 .ensures in
-    (
+    let parts = c .split-at-2 .ensures in (
       skipped (need.at·returns c .After-split-at)
           ∙ fields-cut _ _ first (c .run-len-2 .ensures .within) (c .run-len-2 .ensures .all) (c .run-len-2 .ensures .stops)
           ∙ sym (λ i. parts .front i ∷ fields (parts .back i)),
