@@ -139,48 +139,56 @@ mod tests {
     use crate::command::CommandPartialEq;
     use crate::malformed::MalformedDebug;
     use crate::malformed::MalformedPartialEq;
+    use std::alloc::Global;
     use std::test::*;
 
+    fn reads(heap: Global, line: &[u8], command: Option<Command>, all: &[i32]) -> Result<(), Fail> {
+        let mut words = Vec::new(heap);
+        check_eq(read_line(line, &mut words), Ok(command))?;
+        check(words.as_slice() == all)
+    }
+
+    fn refuses(heap: Global, line: &[u8], why: Malformed) -> Result<(), Fail> {
+        let mut words = Vec::new(heap);
+        check_eq(read_line(line, &mut words), Err(why))
+    }
+
     #[test]
-    fn reads_weighings(rt: LibcRuntime) -> Result<(), Fail> {
-        let mut words = Vec::new(rt.alloc());
-        let command = read_line(b"\tweigh lower  4294967295 007\r -2147483648 2147483647 -0\r", &mut words)?;
+    fn edges(rt: LibcRuntime) -> Result<(), Fail> {
+        let heap = rt.alloc();
         let (side, s, t) = (Side::Lower, 4294967295, 7);
-        check_eq(command, Some(Command::Weigh { side, s, t }))?;
-        check(words.as_slice() == &[-2147483648, 2147483647, 0])?;
-        let command = read_line(b"weigh upper 0 3", &mut words)?;
+        let least = Some(Command::Weigh { side, s, t });
+        reads(
+            heap,
+            b"\tweigh lower  4294967295 007\r -2147483648 -0\r",
+            least,
+            &[-2147483648, 0],
+        )?;
         let (side, s, t) = (Side::Upper, 0, 3);
-        check_eq(command, Some(Command::Weigh { side, s, t }))?;
-        check(words.is_empty())
+        let greatest = Some(Command::Weigh { side, s, t });
+        reads(heap, b"weigh upper 0 3 2147483647", greatest, &[2147483647])?;
+        reads(heap, b" \t\r", None, &[])?;
+        reads(heap, b" #weigh upper x", None, &[])
     }
 
     #[test]
-    fn passes_over(rt: LibcRuntime) -> Result<(), Fail> {
-        let mut words = Vec::new(rt.alloc());
-        check_eq(read_line(b"", &mut words)?, None)?;
-        check_eq(read_line(b" \t\r", &mut words)?, None)?;
-        check_eq(read_line(b"#weigh upper x", &mut words)?, None)?;
-        check_eq(read_line(b"  # ?", &mut words)?, None)
-    }
-
-    #[test]
-    fn refuses_commands_and_fields(rt: LibcRuntime) -> Result<(), Fail> {
-        let mut words = Vec::new(rt.alloc());
-        check_eq(read_line(b"Weigh upper 0 3", &mut words), Err(Malformed::UnknownCommand))?;
-        check_eq(read_line(b"weighs", &mut words), Err(Malformed::UnknownCommand))?;
-        check_eq(read_line(b"weigh upper 0", &mut words), Err(Malformed::TooFewFields))?;
-        check_eq(read_line(b"weigh under x", &mut words), Err(Malformed::NotASide(1)))?;
-        check_eq(read_line(b"weigh upper +1 x", &mut words), Err(Malformed::NotANumber(2)))?;
-        check_eq(read_line(b"weigh upper 0 4294967296", &mut words), Err(Malformed::NotANumber(3)))
-    }
-
-    #[test]
-    fn refuses_words(rt: LibcRuntime) -> Result<(), Fail> {
-        let mut words = Vec::new(rt.alloc());
-        check_eq(read_line(b"weigh upper 0 3 -", &mut words), Err(Malformed::NotAWord(0)))?;
-        check_eq(read_line(b"weigh upper 0 3 1 --1", &mut words), Err(Malformed::NotAWord(1)))?;
-        check_eq(read_line(b"weigh upper 0 3 2147483648", &mut words), Err(Malformed::NotAWord(0)))?;
-        check_eq(read_line(b"weigh upper 0 3 -2147483649", &mut words), Err(Malformed::NotAWord(0)))?;
-        check_eq(read_line(b"weigh upper 0 3 1x", &mut words), Err(Malformed::NotAWord(0)))
+    fn refusals(rt: LibcRuntime) -> Result<(), Fail> {
+        let heap = rt.alloc();
+        refuses(heap, b"weighs upper 0 3", Malformed::UnknownCommand)?;
+        refuses(heap, b"weigh upper 0", Malformed::TooFewFields)?;
+        refuses(heap, b"weigh under x", Malformed::NotASide(1))?;
+        refuses(heap, b"weigh upper +1 x", Malformed::NotANumber(2))?;
+        refuses(heap, b"weigh upper 0 4294967296", Malformed::NotANumber(3))?;
+        refuses(heap, b"weigh upper 0 3 -", Malformed::NotAWord(0))?;
+        refuses(
+            heap,
+            b"weigh upper 0 3 1 2147483648",
+            Malformed::NotAWord(1),
+        )?;
+        refuses(
+            heap,
+            b"weigh upper 0 3 1 2 -2147483649",
+            Malformed::NotAWord(2),
+        )
     }
 }
