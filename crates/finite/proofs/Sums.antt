@@ -49,23 +49,12 @@ sum-one (suc n) f x l =
     (λ d. omega (arith, sum-one n f x (omega arith), cond-false (eqb x n) (f n) 0 (ne-eqb x n d)))
     (cases-eq x n)
 
--- the exchange: amounts at the places of one side, with the margins p there, weighed by w
-mul-cond : (k x : ℕ) (b : Bool) → k * cond b x 0 ≡ cond b (k * x) 0
-mul-cond k x true = refl
-mul-cond k x false = mul-zero k
+pub sum-mul-right : (n k : ℕ) (f : ℕ → ℕ) → sum n (λ i. f i * k) ≡ sum n f * k
+sum-mul-right n k f = sum-same n _ _ (λ i l. mul-comm (f i) k) ∙ sum-mul n k f ∙ mul-comm k (sum n f)
 
-pub exchange : (n m : ℕ) (side amount p w : ℕ → ℕ)
-    → ((j : ℕ) → j < m → side j < n)
-    → ((u : ℕ) → u < n → sum m (λ j. cond (eqb (side j) u) (amount j) 0) ≡ p u)
-    → sum m (λ j. amount j * w (side j)) ≡ sum n (λ u. p u * w u)
-exchange n m side amount p w inside margins =
-    sum-same m _ _ (λ j l. mul-comm (amount j) (w (side j)) ∙ sym (sum-one n (λ u. w u * amount j) (side j) (inside j l)))
-    ∙ sum-swap m n (λ j u. cond (eqb (side j) u) (w u * amount j) 0)
-    ∙ sum-same n _ _ (λ u l.
-    sum-same m _ _ (λ j k. sym (mul-cond (w u) (amount j) (eqb (side j) u)))
-    ∙ sum-mul m (w u) (λ j. cond (eqb (side j) u) (amount j) 0)
-    ∙ ap (λ x. w u * x) (margins u l)
-    ∙ mul-comm (w u) (p u))
+-- what lies at the places y j, added up place by place
+pub sum-places : (n m : ℕ) (y g : ℕ → ℕ) → ((j : ℕ) → j < m → y j < n) → sum n (λ v. sum m (λ j. cond (eqb (y j) v) (g j) 0)) ≡ sum m g
+sum-places n m y g inside = sum-swap n m (λ v j. cond (eqb (y j) v) (g j) 0) ∙ sum-same m _ _ (λ j l. sum-one n (λ _. g j) (y j) (inside j l))
 
 -- a signed sum, by the sums of its parts
 pub sumℤ-parts : (n : ℕ) (f : ℕ → ℤ) → up (sumℤ n f) + sum n (λ i. down (f i)) ≡ down (sumℤ n f) + sum n (λ i. up (f i))

@@ -1,0 +1,7 @@
+pub mod Chain
+pub mod Words
+pub mod Pairing
+pub mod Potentials
+pub mod Faults
+pub mod Meaning
+pub mod Coupling

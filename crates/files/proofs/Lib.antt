@@ -1,0 +1,3 @@
+mod Spans
+mod Exits
+pub mod Reading

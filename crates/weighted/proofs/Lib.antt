@@ -1,0 +1,7 @@
+mod Tally
+mod Triples
+mod Rounding
+mod Near
+mod Gains
+mod Scan
+pub mod Soundness
