@@ -6,4 +6,4 @@ pub mod command;
 mod fields;
 pub mod line;
 pub mod malformed;
-mod numerals;
+pub mod numerals;

@@ -21,8 +21,8 @@ fn read_numeral(field: &[u8], most: u32) -> Option<u32>
     Some(value as u32)
 }
 
-/// The number of a section, or any other that is below 2^32.
-pub(crate) fn read_number(field: &[u8]) -> Option<u32>
+/// The number that a field writes, if it is a decimal numeral of a number below 2^32: digits only.
+pub fn read_number(field: &[u8]) -> Option<u32>
     ensures { λ r. ⌜ r ≡ number (now (field .entry)) ⌝ }
 {
     read_numeral(field, u32::MAX)
