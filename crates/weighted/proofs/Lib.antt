@@ -4,4 +4,6 @@ mod Rounding
 mod Near
 mod Gains
 mod Scan
+mod Filling
+mod Reading
 pub mod Soundness

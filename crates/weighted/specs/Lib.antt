@@ -1,3 +1,4 @@
 pub mod Rows
 pub mod View
 pub mod Gathering
+pub mod Reading

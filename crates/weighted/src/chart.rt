@@ -6,6 +6,7 @@ ghost use Rattle.weighted.specs.Rows.{entry-at};
 pub mod kind;
 mod pairing;
 mod potentials;
+mod reading;
 
 /// A weighted chart. Row `s` of `rows` has the part of each section, and adds up to `whole`.
 #[derive(Drop)]
