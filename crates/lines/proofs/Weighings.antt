@@ -1,9 +1,9 @@
 -- A weighing, field by field.
-use Prim.Native.Nat.{ℕ}
+use Prim.Native.Nat.{ℕ, _≤_}
 use mathlib.Core.Path.{_≡_, refl, sym, ap, _∙_}
 use mathlib.Core.List.{List, [], _∷_}
 use lib.IntN.{ℤ}
-use lib.ListN.{length, getD, drop}
+use lib.ListN.{length, drop, length-drop}
 use mathlib.Core.Bool.{false}
 use native.Mathlib.Omega.{arith}
 use Rattle.std.specs.declared.option.Option.the-variants.{Some}
@@ -31,6 +31,9 @@ module _ (fs ss ts ws : List (List ℕ)) (first-rest : drop 1 fs ≡ ss) (second
 
   pub weigh-err : (wrong : Malformed) → words-from 0 ws ≡ Err wrong → weigh-read ([] ∷ fs) ≡ Err wrong
   weigh-err wrong e = rw (is-x, first-rest, is-s, two, is-t, three, e) refl
+
+pub fewer : (fs ss : List (List ℕ)) → drop 1 fs ≡ ss → length ss ≤ length fs
+fewer fs ss e = omega (arith, ap length e, length-drop 1 fs)
 
 pub no-comment : (f : List ℕ) → length f ≡ 0 → comment f ≡ false
 no-comment [] e = refl

@@ -1,9 +1,9 @@
 ghost use mathlib.Core.Path.{_≡_};
 ghost use mathlib.Core.List.{[], _∷_};
 ghost use mathlib.Core.Logic.{_⊎_};
-ghost use Prim.Native.Nat.{ℕ};
+ghost use Prim.Native.Nat.{ℕ, _<_};
 ghost use lib.ListN.{length, drop};
-ghost use Rattle.std.specs.Of.Vec.{vec-items};
+ghost use Rattle.std.specs.Of.Vec.{vec-cap, vec-items};
 ghost use Rattle.std.specs.Results.{Cases};
 ghost use Rattle.std.specs.shelf.Text.{sameBytes};
 ghost use Rattle.lines.specs.Fields.{fields};
@@ -75,7 +75,7 @@ fn read_words(bytes: &[u8], words: &mut Vec<i32>) -> Result<(), Malformed>
     requires { ⌜ vec-items (now words) ≡ [] ⌝ }
     ensures { λ r. ⌜ Cases r
         (λ _. words-from 0 (fields (now (bytes .entry))) ≡ Ok (vec-items (now (words .exit))))
-        (λ e. (e ≡ Memory) ⊎ (words-from 0 (fields (now (bytes .entry))) ≡ Err e)) ⌝ }
+        (λ e. ((e ≡ Memory) × (vec-cap (now (words .entry)) < length (fields (now (bytes .entry))))) ⊎ (words-from 0 (fields (now (bytes .entry))) ≡ Err e)) ⌝ }
 {
     let mut rest = bytes;
     while let Some((field, after)) = split_field(rest) {
@@ -93,7 +93,7 @@ fn read_weigh(bytes: &[u8], words: &mut Vec<i32>) -> Result<Command, Malformed>
     requires { ⌜ vec-items (now words) ≡ [] ⌝ }
     ensures { λ r. ⌜ Cases r
         (λ c. (weigh-read ([] ∷ fields (now (bytes .entry))) ≡ Ok (Some c)) × (weigh-words ([] ∷ fields (now (bytes .entry))) ≡ Ok (vec-items (now (words .exit)))))
-        (λ e. (e ≡ Memory) ⊎ (weigh-read ([] ∷ fields (now (bytes .entry))) ≡ Err e)) ⌝ }
+        (λ e. ((e ≡ Memory) × (vec-cap (now (words .entry)) < length (fields (now (bytes .entry))))) ⊎ (weigh-read ([] ∷ fields (now (bytes .entry))) ≡ Err e)) ⌝ }
 {
     let (side, rest) = side_field(bytes, 1)?;
     let (s, rest) = number_field(rest, 2)?;
@@ -115,8 +115,9 @@ fn is_comment(field: &[u8]) -> bool
 /// Reads one line. Its words, where it has some, go into `words`, which is cleared first.
 ///
 /// A line that is passed over asks for nothing. Of several things that are wrong, the answer is the first in the line.
+/// Memory is wanting only if `words` has room for fewer words than the line has fields.
 pub fn read_line(line: &[u8], words: &mut Vec<i32>) -> Result<Option<Command>, Malformed>
-    ensures command { λ r. ⌜ (r ≡ Err Memory) ⊎ (r ≡ line-read (now (line .entry))) ⌝ }
+    ensures command { λ r. ⌜ ((r ≡ Err Memory) × (vec-cap (now (words .entry)) < length (fields (now (line .entry))))) ⊎ (r ≡ line-read (now (line .entry))) ⌝ }
     ensures words { λ r. ⌜ ((c : Command) → r ≡ Ok (Some c) → line-words (now (line .entry)) ≡ Ok (vec-items (now (words .exit)))) ⌝ }
 {
     words.clear();
