@@ -14,7 +14,7 @@ use Rattle.std.specs.declared.option.Option.{Option}
 use Rattle.std.specs.declared.option.Option.the-variants.{Some, None}
 use Rattle.std.proofs.shelf.Lists.{at-drop-more, at-drop-all, take-rest}
 use Rattle.std.proofs.shelf.Tests.{cases-bool, lt-leb, le-leb, leb-true, eq-eqb}
-use Rattle.lines.specs.Numerals.{digits-after, numeral, at-most, word}
+use Rattle.lines.specs.Numerals.{digits-after, numeral, at-most, word-of}
 
 -- a value never falls, so that too great a start is too great
 pub too-great : (most n : ℕ) (bs : List ℕ) → most < n → at-most most (digits-after n bs) ≡ None
@@ -42,7 +42,7 @@ at-most-bound most n o e = search (needs, leb-true)
 
 -- a word that begins with a minus
 pub word-minus : (bs : List ℕ) → getD bs 0 0 ≡ 45 → (o : Option ℕ)
-    → o ≡ at-most 2147483648 (numeral (take (length bs - 1) (drop 1 bs))) → word bs ≡ mapped (λ n. negℤ (pos n)) o
+    → o ≡ at-most 2147483648 (numeral (take (length bs - 1) (drop 1 bs))) → word-of bs ≡ mapped (λ n. negℤ (pos n)) o
 word-minus [] minus o e = absurd (omega arith)
 word-minus (b ∷ bs) minus o e =
     rw (eq-eqb b 45 minus) (ap (mapped (λ n. negℤ (pos n))) (sym (e ∙ ap (λ l. at-most 2147483648 (numeral l)) (take-rest (b ∷ bs) 1))))

@@ -14,12 +14,12 @@ use Rattle.chart.specs.declared.side.Side.{Side}
 use Rattle.lines.specs.declared.command.Command.the-variants.{Weigh}
 use Rattle.lines.specs.declared.malformed.Malformed.{Malformed}
 use Rattle.lines.specs.declared.malformed.Malformed.the-variants.{NotASide, NotANumber}
-use Rattle.lines.specs.Numerals.{number}
-use Rattle.lines.specs.Reading.{side, first, words-from, weigh-read, weigh-words, comment}
+use Rattle.lines.specs.Numerals.{number-of}
+use Rattle.lines.specs.Reading.{side-of, first, words-from, weigh-read, weigh-words, comment}
 
 -- fs are the fields after the command; after the side come ss, after the first section ts, and after the second ws
 module _ (fs ss ts ws : List (List ℕ)) (first-rest : drop 1 fs ≡ ss) (second-rest : drop 1 ss ≡ ts) (third-rest : drop 1 ts ≡ ws) (x : Side) (s t : ℕ)
-    (is-x : first side (NotASide 1) fs ≡ Ok x) (is-s : first number (NotANumber 2) ss ≡ Ok s) (is-t : first number (NotANumber 3) ts ≡ Ok t) where
+    (is-x : first side-of (NotASide 1) fs ≡ Ok x) (is-s : first number-of (NotANumber 2) ss ≡ Ok s) (is-t : first number-of (NotANumber 3) ts ≡ Ok t) where
   two : drop 2 fs ≡ ts
   two = sym (drop-drop 1 1 fs) ∙ ap (drop 1) first-rest ∙ second-rest
 

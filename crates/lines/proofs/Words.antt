@@ -8,7 +8,7 @@ use Rattle.std.specs.declared.result.Result.{Result}
 use Rattle.std.specs.declared.result.Result.the-variants.{Ok, Err}
 use Rattle.lines.specs.declared.malformed.Malformed.{Malformed}
 use Rattle.lines.specs.declared.malformed.Malformed.the-variants.{NotAWord}
-use Rattle.lines.specs.Numerals.{word}
+use Rattle.lines.specs.Numerals.{word-of}
 use Rattle.lines.specs.Reading.{_then_, words-from}
 
 -- the words that were read, and then those that are left to read
@@ -24,11 +24,11 @@ onto-push ws w (Ok vs) = ap Ok (append-assoc ws (w ∷ []) vs)
 onto-push ws w (Err x) = refl
 
 module _ (ws : List ℤ) (k : ℕ) (fs : List (List ℕ)) where
-  pub words-more : (f : List ℕ) (rest : List (List ℕ)) (w : ℤ) → fs ≡ f ∷ rest → word f ≡ Some w → onto (ws ++ w ∷ []) (words-from (k + 1) rest) ≡ onto ws (words-from k fs)
+  pub words-more : (f : List ℕ) (rest : List (List ℕ)) (w : ℤ) → fs ≡ f ∷ rest → word-of f ≡ Some w → onto (ws ++ w ∷ []) (words-from (k + 1) rest) ≡ onto ws (words-from k fs)
   unfolding words-from
   words-more f rest w e is = rw (e, is) (onto-push ws w (words-from (k + 1) rest))
 
-  pub words-wrong : (f : List ℕ) (rest : List (List ℕ)) → fs ≡ f ∷ rest → word f ≡ None → onto ws (words-from k fs) ≡ Err (NotAWord k)
+  pub words-wrong : (f : List ℕ) (rest : List (List ℕ)) → fs ≡ f ∷ rest → word-of f ≡ None → onto ws (words-from k fs) ≡ Err (NotAWord k)
   unfolding words-from
   words-wrong f rest e is = rw (e, is) refl
 

@@ -24,10 +24,10 @@ at-most most None = None
 at-most most (Some n) = cond (leb n most) (Some n) None
 
 -- a number below 2 ^ 32
-abbrev pub number : List ℕ → Option ℕ
-number bs = at-most 4294967295 (numeral bs)
+abbrev pub number-of : List ℕ → Option ℕ
+number-of bs = at-most 4294967295 (numeral bs)
 
 -- a signed 32-bit number: a numeral, with a minus in front or none
-abbrev pub word : List ℕ → Option ℤ
-word [] = None
-word (b ∷ bs) = cond (eqb b 45) (mapped (λ n. negℤ (pos n)) (at-most 2147483648 (numeral bs))) (mapped pos (at-most 2147483647 (numeral (b ∷ bs))))
+abbrev pub word-of : List ℕ → Option ℤ
+word-of [] = None
+word-of (b ∷ bs) = cond (eqb b 45) (mapped (λ n. negℤ (pos n)) (at-most 2147483648 (numeral bs))) (mapped pos (at-most 2147483647 (numeral (b ∷ bs))))

@@ -19,7 +19,7 @@ use Rattle.lines.specs.declared.command.Command.the-variants.{Weigh}
 use Rattle.lines.specs.declared.malformed.Malformed.{Malformed}
 use Rattle.lines.specs.declared.malformed.Malformed.the-variants.{UnknownCommand, TooFewFields, NotASide, NotANumber, NotAWord}
 use Rattle.lines.specs.Fields.{fields}
-use Rattle.lines.specs.Numerals.{number, word}
+use Rattle.lines.specs.Numerals.{number-of, word-of}
 
 -- the first error of two readings, or what the second makes of the first
 infixr 1 _then_
@@ -27,8 +27,8 @@ abbrev pub _then_ : {X Y : Type 0} → Result X Malformed → (X → Result Y Ma
 (Ok x) then f = f x
 (Err e) then f = Err e
 
-abbrev pub side : List ℕ → Option Side
-side f = cond (sameBytes f (codes "upper")) (Some Upper) (cond (sameBytes f (codes "lower")) (Some Lower) None)
+abbrev pub side-of : List ℕ → Option Side
+side-of f = cond (sameBytes f (codes "upper")) (Some Upper) (cond (sameBytes f (codes "lower")) (Some Lower) None)
 
 -- what the first of the fields says, as `says` reads it
 abbrev pub first : {X : Type 0} → (List ℕ → Option X) → Malformed → List (List ℕ) → Result X Malformed
@@ -36,13 +36,13 @@ first says wrong [] = Err TooFewFields
 first says wrong (f ∷ fs) = okOr (says f) wrong
 
 -- what field k says
-abbrev pub field : {X : Type 0} → ℕ → (List ℕ → Option X) → (ℕ → Malformed) → List (List ℕ) → Result X Malformed
-field k says wrong fs = first says (wrong k) (drop k fs)
+abbrev pub field-says : {X : Type 0} → ℕ → (List ℕ → Option X) → (ℕ → Malformed) → List (List ℕ) → Result X Malformed
+field-says k says wrong fs = first says (wrong k) (drop k fs)
 
 -- the words that the fields write; k is the number of the first
 unfoldable pub words-from : ℕ → List (List ℕ) → Result (List ℤ) Malformed
 words-from k [] = Ok []
-words-from k (f ∷ fs) = okOr (word f) (NotAWord k) then λ w. words-from (k + 1) fs then λ ws. Ok (w ∷ ws)
+words-from k (f ∷ fs) = okOr (word-of f) (NotAWord k) then λ w. words-from (k + 1) fs then λ ws. Ok (w ∷ ws)
 
 -- the words of a weighing
 abbrev pub weigh-words : List (List ℕ) → Result (List ℤ) Malformed
@@ -51,9 +51,9 @@ weigh-words fs = words-from 0 (drop 4 fs)
 -- a weighing: the command, a side, two sections and words
 abbrev pub weigh-read : List (List ℕ) → Result (Option Command) Malformed
 weigh-read fs =
-    field 1 side NotASide fs then λ side.
-    field 2 number NotANumber fs then λ s.
-    field 3 number NotANumber fs then λ t.
+    field-says 1 side-of NotASide fs then λ side.
+    field-says 2 number-of NotANumber fs then λ s.
+    field-says 3 number-of NotANumber fs then λ t.
     weigh-words fs then λ ws. Ok (Some (Weigh side s t))
 
 -- whether a line whose first field is this one is passed over: it begins with #

@@ -7,8 +7,8 @@ ghost use Rattle.std.specs.Of.Vec.{vec-cap, vec-items};
 ghost use Rattle.std.specs.Results.{Cases};
 ghost use Rattle.std.specs.shelf.Text.{sameBytes};
 ghost use Rattle.lines.specs.Fields.{fields};
-ghost use Rattle.lines.specs.Numerals.{number};
-ghost use Rattle.lines.specs.Reading.{comment, first, line-read, line-words, side, weigh-read, weigh-words, words-from};
+ghost use Rattle.lines.specs.Numerals.{number-of};
+ghost use Rattle.lines.specs.Reading.{comment, first, line-read, line-words, side-of, weigh-read, weigh-words, words-from};
 ghost use Rattle.lines.specs.declared.malformed.Malformed.the-variants.{Memory, NotASide, NotANumber};
 ghost use Rattle.std.specs.declared.option.Option.the-variants.{Some, None};
 ghost use Rattle.std.specs.declared.result.Result.the-variants.{Ok, Err};
@@ -29,7 +29,7 @@ fn is_text(field: &[u8], text: &[u8]) -> bool
 
 /// The side that a field names.
 fn read_side(field: &[u8]) -> Option<Side>
-    ensures { λ r. ⌜ r ≡ side (now (field .entry)) ⌝ }
+    ensures { λ r. ⌜ r ≡ side-of (now (field .entry)) ⌝ }
 {
     if is_text(field, b"upper") {
         Some(Side::Upper)
@@ -43,8 +43,8 @@ fn read_side(field: &[u8]) -> Option<Side>
 /// The side that the first field names, and what follows it; the field is number `k` of the line.
 fn side_field(bytes: &[u8], k: usize) -> Result<(Side, &[u8]), Malformed>
     ensures { λ r. ⌜ Cases r
-        (λ p. (first side (NotASide k) (fields (now (bytes .entry))) ≡ Ok (p .0)) × (drop 1 (fields (now (bytes .entry))) ≡ fields (p .1 .now)))
-        (λ e. first side (NotASide k) (fields (now (bytes .entry))) ≡ Err e) ⌝ }
+        (λ p. (first side-of (NotASide k) (fields (now (bytes .entry))) ≡ Ok (p .0)) × (drop 1 (fields (now (bytes .entry))) ≡ fields (p .1 .now)))
+        (λ e. first side-of (NotASide k) (fields (now (bytes .entry))) ≡ Err e) ⌝ }
 {
     let Some((field, rest)) = split_field(bytes) else {
         return Err(Malformed::TooFewFields);
@@ -58,8 +58,8 @@ fn side_field(bytes: &[u8], k: usize) -> Result<(Side, &[u8]), Malformed>
 /// The number that the first field writes, and what follows it; the field is number `k` of the line.
 fn number_field(bytes: &[u8], k: usize) -> Result<(u32, &[u8]), Malformed>
     ensures { λ r. ⌜ Cases r
-        (λ p. (first number (NotANumber k) (fields (now (bytes .entry))) ≡ Ok (p .0)) × (drop 1 (fields (now (bytes .entry))) ≡ fields (p .1 .now)))
-        (λ e. first number (NotANumber k) (fields (now (bytes .entry))) ≡ Err e) ⌝ }
+        (λ p. (first number-of (NotANumber k) (fields (now (bytes .entry))) ≡ Ok (p .0)) × (drop 1 (fields (now (bytes .entry))) ≡ fields (p .1 .now)))
+        (λ e. first number-of (NotANumber k) (fields (now (bytes .entry))) ≡ Err e) ⌝ }
 {
     let Some((field, rest)) = split_field(bytes) else {
         return Err(Malformed::TooFewFields);

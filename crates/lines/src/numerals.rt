@@ -1,5 +1,5 @@
 ghost use mathlib.Core.Path.{_≡_};
-ghost use Rattle.lines.specs.Numerals.{at-most, number, numeral, word};
+ghost use Rattle.lines.specs.Numerals.{at-most, number-of, numeral, word-of};
 
 /// The number that a numeral writes, if it is at most `most`.
 fn read_numeral(field: &[u8], most: u32) -> Option<u32>
@@ -23,14 +23,14 @@ fn read_numeral(field: &[u8], most: u32) -> Option<u32>
 
 /// The number that a field writes, if it is a decimal numeral of a number below 2^32: digits only.
 pub fn read_number(field: &[u8]) -> Option<u32>
-    ensures { λ r. ⌜ r ≡ number (now (field .entry)) ⌝ }
+    ensures { λ r. ⌜ r ≡ number-of (now (field .entry)) ⌝ }
 {
     read_numeral(field, u32::MAX)
 }
 
 /// The word that a field writes.
 pub(crate) fn read_word(field: &[u8]) -> Option<i32>
-    ensures { λ r. ⌜ r ≡ word (now (field .entry)) ⌝ }
+    ensures { λ r. ⌜ r ≡ word-of (now (field .entry)) ⌝ }
 {
     match field {
         [b'-', digits @ ..] => {

@@ -1,4 +1,11 @@
 //! `settle CHART TOP < LINES`: weighs showings against a chart, as the lines of the input ask.
+ghost use mathlib.Core.Path.{_≡_};
+ghost use Prim.Native.Nat.{ℕ};
+ghost use Rattle.std.specs.Results.{Cases};
+ghost use Rattle.std.specs.declared.option.Option.the-variants.{Some};
+ghost use Rattle.chart.specs.Tops.{InRange};
+ghost use Rattle.lines.specs.Numerals.{number-of};
+
 mod failure;
 mod session;
 
@@ -56,7 +63,9 @@ fn read_chart(rt: &LibcRuntime, path: &str) -> Result<Weighted, Failure> {
 }
 
 /// The top that a text writes.
-fn read_top(text: &str) -> Result<Top, Failure> {
+fn read_top(text: &str) -> Result<Top, Failure>
+    ensures { λ r. ⌜ Cases r (λ top. number-of (now (text .entry)) ≡ Some (top .value)) (λ _. (k : ℕ) → number-of (now (text .entry)) ≡ Some k → InRange k → ⊥) ⌝ }
+{
     let Some(number) = read_number(text.as_bytes()) else {
         return Err(Failure::Top);
     };
