@@ -8,6 +8,7 @@ ghost use Rattle.lines.specs.Numerals.{number-of};
 
 mod failure;
 mod session;
+mod tables;
 
 use chain::fault::FaultDisplay;
 use chart::top::Top;

@@ -1,8 +1,7 @@
 use crate::failure::Failure;
 use crate::failure::FailureFromIo;
+use crate::tables::Tables;
 use chart::kind::Chart;
-use chart::side::Side;
-use chart::table::Table;
 use chart::top::Top;
 use lines::command::Command;
 use lines::command::CommandDisplay;
@@ -12,13 +11,6 @@ use std::fmt::Display;
 use std::io;
 use std::io::BufRead;
 use std::io::Write;
-
-/// The tables in which showings are weighed, one for each side.
-#[derive(Drop)]
-struct Tables {
-    upper: Table,
-    lower: Table,
-}
 
 /// Does what the lines of the input ask, and writes the answers.
 pub(crate) fn settle_lines<C: Chart, R: BufRead, W: Write>(
@@ -31,10 +23,7 @@ pub(crate) fn settle_lines<C: Chart, R: BufRead, W: Write>(
 where
     C::Fault: Display + Drop,
 {
-    let tables = Tables {
-        upper: Table::starting(chart, Side::Upper, top),
-        lower: Table::starting(chart, Side::Lower, top),
-    };
+    let tables = Tables::starting(chart, top);
     let mut line = Vec::new(heap);
     let mut words = Vec::new(heap);
     for number in 1..u64::MAX {
@@ -74,15 +63,9 @@ where
     C::Fault: Display + Drop,
 {
     match command {
-        Command::Weigh { side, s, t } => {
-            let table = match side {
-                Side::Upper => &tables.upper,
-                Side::Lower => &tables.lower,
-            };
-            match chart.weigh(side, table, s as usize, t as usize, words) {
-                Ok(claim) => writeln!(out, "{command} = {claim}"),
-                Err(fault) => writeln!(out, "{command} fault {fault}"),
-            }
-        }
+        Command::Weigh { side, s, t } => match tables.weigh(chart, side, s, t, words) {
+            Ok(claim) => writeln!(out, "{command} = {claim}"),
+            Err(fault) => writeln!(out, "{command} fault {fault}"),
+        },
     }
 }
