@@ -20,11 +20,11 @@ impl Table {
         Table { top, cells }
     }
 
-    /// Its top.
-    pub fn top(&self) -> Top
-        ensures { λ r. ⌜ r ≡ now (self .entry) .top ⌝ }
+    /// The number of its top.
+    pub fn top(&self) -> u32
+        ensures { λ r. ⌜ r ≡ distances (now (self .entry)) .top ⌝ }
     {
-        self.top
+        self.top.value()
     }
 
     /// The entry of a pair, which is the top where a section is not below 32.
@@ -34,7 +34,7 @@ impl Table {
         if s < SECTIONS && t < SECTIONS {
             self.cells[s * SECTIONS + t]
         } else {
-            self.top.value()
+            self.top()
         }
     }
 }

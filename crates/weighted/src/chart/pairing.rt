@@ -123,7 +123,13 @@ impl Weighted {
     }
 
     /// The least claim that the pairing shows for `(s, t)` in the table, or its first fault.
-    pub fn weigh_pairing(&self, d: &Table, s: usize, t: usize, words: &[i32]) -> Result<u32, Fault>
+    pub(super) fn weigh_pairing(
+        &self,
+        d: &Table,
+        s: usize,
+        t: usize,
+        words: &[i32],
+    ) -> Result<u32, Fault>
         ensures { λ r. ⌜ r ≡ weighed (chain (now (self .entry))) Upper (distances (now (d .entry))) s t (now (words .entry)) ⌝ }
     {
         if self.unjudges(s, t) {

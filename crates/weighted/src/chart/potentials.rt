@@ -85,7 +85,7 @@ impl Weighted {
     }
 
     /// The greatest claim that the potentials show for `(s, t)` in the table, or their first fault.
-    pub fn weigh_potentials(
+    pub(super) fn weigh_potentials(
         &self,
         d: &Table,
         s: usize,
@@ -100,7 +100,7 @@ impl Weighted {
         if words.len() != 2 * self.n {
             return Err(Fault::PotentialsCount(words.len()));
         }
-        if let Some(i) = find_wide(words, d.top().value()) {
+        if let Some(i) = find_wide(words, d.top()) {
             return Err(Fault::Range(i));
         }
         if let Some(i) = self.find_above(d, s, t, words) {

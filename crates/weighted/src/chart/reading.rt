@@ -11,13 +11,13 @@ ghost use Rattle.weighted.specs.Rows.{entry-at};
 ghost use Rattle.weighted.specs.Reading.{band-in, part-in, chain-in, read-answer, fresh-chain};
 ghost use Rattle.files.specs.Reading.{Fits};
 ghost use Rattle.files.specs.declared.kind.Kind.the-variants.{Weighted as weighted-kind};
+use crate::chart::Weighted;
 use files::bytes::byte;
 use files::bytes::field;
 use files::header::Header;
 use files::header::read_header;
 use files::kind::Kind;
 use files::refusal::ReadRefusal;
-use crate::chart::Weighted;
 
 /// The bands of a file with this header.
 fn read_bands(bytes: &[u8], header: Header) -> [u8; 32]
@@ -89,7 +89,14 @@ impl Weighted {
     {
         let mut rows = [[0; 32]; 32];
         rows[0][0] = 1;
-        Weighted { n: 1, a: 1, b: 2, whole: 1, bands: [0; 32], rows }
+        Weighted {
+            n: 1,
+            a: 1,
+            b: 2,
+            whole: 1,
+            bands: [0; 32],
+            rows,
+        }
     }
 
     /// Reads a file. It answers how many sections the chart now has; a refused read leaves the chart as it was.

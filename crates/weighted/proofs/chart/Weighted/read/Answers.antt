@@ -13,11 +13,31 @@ returns-in-Some c = record {
 pub ghost-self : need.ghost-self
 ghost-self c =
     let f = c .in-Continue-header .ensures tt .fits in
-    let w = weighted-whole _ _ f in
-    (f .some-sections, (f .few-sections, (f .some-numerator, (f .below-one, (f .few-denominator, (w .0, (w .1, (
-      rows-add-up (c .args .bytes .now) (c .in-Continue-header .header) (c .read-rows-rows .result) f (sym (c .in-Continue-header .ensures tt .answer)) (c .read-rows-rows .ensures) (c .in-rest .ensures tt),
-      tt,
-    ))))))))
+    let w = weighted-whole _ _ f in (
+      f .some-sections,
+      (
+        f .few-sections,
+        (
+          f .some-numerator,
+          (
+            f .below-one,
+            (
+              f .few-denominator,
+              (
+                w .0,
+                (
+                  w .1,
+                  (
+                    rows-add-up (c .args .bytes .now) (c .in-Continue-header .header) (c .read-rows-rows .result) f (sym (c .in-Continue-header .ensures tt .answer)) (c .read-rows-rows .ensures) (c .in-rest .ensures tt),
+                    tt,
+                  ),
+                ),
+              ),
+            ),
+          ),
+        ),
+      ),
+    )
 
 pub returns : need.returns
 returns c = record {

@@ -53,12 +53,12 @@ returns-then-words-self c = faulty _ _ _ (potentials-count _ _ _ _ _ (sym (c .if
 
 pub returns-in-Some : need.returns-in-Some
 returns-in-Some c =
-    faulty _ _ _ (range-wrong (c .args .self .now) (distances (c .args .d .now)) (c .args .s) (c .args .t) (c .args .words .now) (c .value .result) (c .value .ensures ∙ ap (λ t. t .value) (c .top .ensures))
+    faulty _ _ _ (range-wrong (c .args .self .now) (distances (c .args .d .now)) (c .args .s) (c .args .t) (c .args .words .now) (c .top .result) (c .top .ensures)
     (c .if-unjudges .ensures tt) (c .if-words-self .left) (c .in-Some .i) (c .in-Some .ensures tt))
 
 pub returns-in-Some-find-above : need.returns-in-Some-find-above
 returns-in-Some-find-above c =
-    faulty _ _ _ (above-wrong (c .args .self .now) (distances (c .args .d .now)) (c .args .s) (c .args .t) (c .args .words .now) (c .value .result) (c .value .ensures ∙ ap (λ t. t .value) (c .top .ensures))
+    faulty _ _ _ (above-wrong (c .args .self .now) (distances (c .args .d .now)) (c .args .s) (c .args .t) (c .args .words .now) (c .top .result) (c .top .ensures)
     (c .if-unjudges .ensures tt) (c .if-words-self .left) (c .in-rest .ensures tt) (c .in-Some-find-above .i) (c .in-Some-find-above .ensures tt))
 
 pub round-down-requires : need.round-down-requires
@@ -66,7 +66,7 @@ round-down-requires c κs =
     let w = c .args .self .now in
     let d = distances (c .args .d .now) in
     let f : SFits w64 (c .weigh-rows .result) = search needs in
-    let none = none-wrong w d (c .args .s) (c .args .t) (c .args .words .now) (c .value .result) (c .value .ensures ∙ ap (λ t. t .value) (c .top .ensures))
+    let none = none-wrong w d (c .args .s) (c .args .t) (c .args .words .now) (c .top .result) (c .top .ensures)
     (c .if-unjudges .ensures tt) (c .if-words-self .left) (c .in-rest .ensures tt) (c .in-rest-find-above .ensures tt) in
     rw (toZ-ofZ w64 (c .weigh-rows .result) f, c .weigh-rows .ensures)
     (gain-few (chain w) (sound w) d (c .args .s) (c .args .t) (c .args .words .now) (c .args .d .now .top .most) (potentials-from _ _ _ _ _ none))
@@ -76,7 +76,7 @@ returns c =
     let w = c .args .self .now in
     let d = distances (c .args .d .now) in
     let f : SFits w64 (c .weigh-rows .result) = search needs in
-    let none = none-wrong w d (c .args .s) (c .args .t) (c .args .words .now) (c .value .result) (c .value .ensures ∙ ap (λ t. t .value) (c .top .ensures))
+    let none = none-wrong w d (c .args .s) (c .args .t) (c .args .words .now) (c .top .result) (c .top .ensures)
     (c .if-unjudges .ensures tt) (c .if-words-self .left) (c .in-rest .ensures tt) (c .in-rest-find-above .ensures tt) in
     ap Ok (c .round-down .ensures ∙ ap (λ (z : ℤ). greatest-claim (chain w) z) (toZ-ofZ w64 (c .weigh-rows .result) f ∙ c .weigh-rows .ensures))
     ∙ ap (λ o. answer o (greatest-claim (chain w) (gain (chain w) (c .args .s) (c .args .t) (c .args .words .now)))) (sym none)
