@@ -1,0 +1,4 @@
+pub mod Cuts
+pub mod Values
+pub mod Words
+pub mod Weighings
