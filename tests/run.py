@@ -109,31 +109,31 @@ CASES = [
     ("top 0", WORKED, 0, [], [], "settle: TOP refused 11 (the top is not a whole number from 1 to 1,000,000,000)", 1),
     ("one above the greatest top", WORKED, TOP + 1, [], [], "settle: TOP refused 11 (the top is not a whole number from 1 to 1,000,000,000)", 1),
     ("a top in words", WORKED, "thirty", [], [], "settle: TOP refused 11 (the top is not a whole number from 1 to 1,000,000,000)", 1),
-    ("an empty file", b"", 30, [], [], "settle: CHART refused 1 0 (the file has fewer than 16 bytes)", 1),
-    ("15 bytes", WORKED[:15], 30, [], [], "settle: CHART refused 1 15 (the file has fewer than 16 bytes)", 1),
-    ("another length", worked(length=51), 30, [], [], "settle: CHART refused 1 14 (the length field is not the size of the file)", 1),
-    ("70,000 bytes", WORKED + bytes(70000), 30, [], [], "settle: CHART refused 1 14 (the length field is not the size of the file)", 1),
-    ("another kind", worked(kind=3), 30, [], [], "settle: CHART refused 2 0 (the file holds another kind of chart)", 1),
-    ("no sections", chart(0, 1, 2, 4, [], []), 30, [], [], "settle: CHART refused 3 2 (the number of sections is not from 1 to 32)", 1),
+    ("an empty file", b"", 30, [], [], "settle: a.chart refused 1 0 (the file has fewer than 16 bytes)", 1),
+    ("15 bytes", WORKED[:15], 30, [], [], "settle: a.chart refused 1 15 (the file has fewer than 16 bytes)", 1),
+    ("another length", worked(length=51), 30, [], [], "settle: a.chart refused 1 14 (the length field is not the size of the file)", 1),
+    ("70,000 bytes", WORKED + bytes(70000), 30, [], [], "settle: a.chart refused 1 14 (the length field is not the size of the file)", 1),
+    ("another kind", worked(kind=3), 30, [], [], "settle: a.chart refused 2 0 (the file holds another kind of chart)", 1),
+    ("no sections", chart(0, 1, 2, 4, [], []), 30, [], [], "settle: a.chart refused 3 2 (the number of sections is not from 1 to 32)", 1),
     ("33 sections", chart(33, 1, 2, 1, [0] * 33, [[int(u == s) for u in range(33)] for s in range(33)]), 30, [], [],
-     "settle: CHART refused 3 2 (the number of sections is not from 1 to 32)", 1),
-    ("discount 0", worked(a=0), 30, [], [], "settle: CHART refused 4 4 (the discount a / b does not have 1 <= a < b <= 1000)", 1),
-    ("discount 1", worked(a=2), 30, [], [], "settle: CHART refused 4 4 (the discount a / b does not have 1 <= a < b <= 1000)", 1),
-    ("denominator 1001", worked(b=1001), 30, [], [], "settle: CHART refused 4 4 (the discount a / b does not have 1 <= a < b <= 1000)", 1),
-    ("no parts", worked(whole=0), 30, [], [], "settle: CHART refused 5 8 (the kind of chart does not allow this whole)", 1),
-    ("10,001 parts", worked(whole=10001), 30, [], [], "settle: CHART refused 5 8 (the kind of chart does not allow this whole)", 1),
-    ("bands in the header", worked(bands_at=15), 30, [], [], "settle: CHART refused 6 10 (the bands do not lie in the file)", 1),
-    ("bands past the end", worked(bands_at=49, routes_at=17, size=52), 30, [], [], "settle: CHART refused 6 10 (the bands do not lie in the file)", 1),
-    ("routes past the end", worked(routes_at=21, size=52), 30, [], [], "settle: CHART refused 6 12 (the routes do not lie in the file, or share a byte with the bands)", 1),
-    ("a shared byte", worked(routes_at=19), 30, [], [], "settle: CHART refused 6 12 (the routes do not lie in the file, or share a byte with the bands)", 1),
+     "settle: a.chart refused 3 2 (the number of sections is not from 1 to 32)", 1),
+    ("discount 0", worked(a=0), 30, [], [], "settle: a.chart refused 4 4 (the discount a / b does not have 1 <= a < b <= 1000)", 1),
+    ("discount 1", worked(a=2), 30, [], [], "settle: a.chart refused 4 4 (the discount a / b does not have 1 <= a < b <= 1000)", 1),
+    ("denominator 1001", worked(b=1001), 30, [], [], "settle: a.chart refused 4 4 (the discount a / b does not have 1 <= a < b <= 1000)", 1),
+    ("no parts", worked(whole=0), 30, [], [], "settle: a.chart refused 5 8 (the kind of chart does not allow this whole)", 1),
+    ("10,001 parts", worked(whole=10001), 30, [], [], "settle: a.chart refused 5 8 (the kind of chart does not allow this whole)", 1),
+    ("bands in the header", worked(bands_at=15), 30, [], [], "settle: a.chart refused 6 10 (the bands do not lie in the file)", 1),
+    ("bands past the end", worked(bands_at=49, routes_at=17, size=52), 30, [], [], "settle: a.chart refused 6 10 (the bands do not lie in the file)", 1),
+    ("routes past the end", worked(routes_at=21, size=52), 30, [], [], "settle: a.chart refused 6 12 (the routes do not lie in the file, or share a byte with the bands)", 1),
+    ("a shared byte", worked(routes_at=19), 30, [], [], "settle: a.chart refused 6 12 (the routes do not lie in the file, or share a byte with the bands)", 1),
     ("routes first, and bytes between", worked(routes_at=17, bands_at=60, size=70), 30, [line("upper", 0, 3, [0, 3, 3, 1, 3, 1])], ["weigh upper 0 3 = 15"], "", 0),
-    ("a row that does not add up", worked(rows=[[3, 1, 0, 0], [0, 4, 0, 0], [0, 2, 1, 0], [0, 0, 0, 5]]), 30, [], [], "settle: CHART refused 7 2 (a row does not add up to the whole)", 1),
+    ("a row that does not add up", worked(rows=[[3, 1, 0, 0], [0, 4, 0, 0], [0, 2, 1, 0], [0, 0, 0, 5]]), 30, [], [], "settle: a.chart refused 7 2 (a row does not add up to the whole)", 1),
 ]
 
 
-def run(program, arguments, lines):
+def run(program, arguments, lines, folder):
     text = "".join(l + "\n" for l in lines)
-    return subprocess.run([program, *arguments], input=text, capture_output=True, text=True, timeout=60)
+    return subprocess.run([program, *arguments], input=text, capture_output=True, text=True, timeout=60, cwd=folder)
 
 
 def main():
@@ -143,18 +143,18 @@ def main():
         path = pathlib.Path(folder) / "a.chart"
         for name, bytes_, top, lines, out, err, status in CASES:
             path.write_bytes(bytes_)
-            got = run(program, [str(path), str(top)], lines)
+            got = run(program, ["a.chart", str(top)], lines, folder)
             want = ("".join(l + "\n" for l in out), err + "\n" if err else "", status)
             if (got.stdout, got.stderr, got.returncode) != want:
                 wrong += 1
                 print(f"tests/run.py: {name}: got {(got.stdout, got.stderr, got.returncode)}, not {want}")
-        for arguments, err in [([], "usage: settle CHART TOP < LINES"), ([str(path)], "usage: settle CHART TOP < LINES")]:
-            got = run(program, arguments, [])
+        for arguments, err in [([], "usage: settle CHART TOP < LINES"), (["a.chart"], "usage: settle CHART TOP < LINES")]:
+            got = run(program, arguments, [], folder)
             if (got.stdout, got.stderr, got.returncode) != ("", err + "\n", 1):
                 wrong += 1
                 print(f"tests/run.py: {len(arguments)} arguments: got {(got.stdout, got.stderr, got.returncode)}")
-        got = run(program, [str(path) + ".none", "30"], [])
-        if got.stdout or "cannot be read" not in got.stderr or got.returncode != 1:
+        got = run(program, ["none.chart", "30"], [], folder)
+        if got.stdout or not got.stderr.startswith("settle: none.chart cannot be read (") or got.returncode != 1:
             wrong += 1
             print(f"tests/run.py: a file that is not there: got {(got.stdout, got.stderr, got.returncode)}")
     print(f"tests/run.py: {len(CASES) + 3} runs, {wrong} wrong")

@@ -1,3 +1,4 @@
 pub mod Fields
 pub mod Numerals
 pub mod Reading
+pub mod Texts

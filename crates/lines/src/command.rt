@@ -1,3 +1,6 @@
+ghost use mathlib.Core.Path.{_≡_};
+ghost use Rattle.std.specs.declared.option.Option.the-variants.{Some};
+ghost use Rattle.lines.specs.Texts.{command-text, side-text};
 use chart::side::Side;
 use chart::side::SideDebug;
 use chart::side::SidePartialEq;
@@ -11,6 +14,8 @@ pub enum Command {
 }
 
 pub impl fmt::Display for Command as CommandDisplay {
+    ghost shown = { λ c. Some (command-text c) };
+
     fn fmt<W: fmt::Write>(&self, f: &mut fmt::Formatter<W>) -> fmt::Result {
         match *self {
             Command::Weigh { side, s, t } => {
@@ -22,7 +27,9 @@ pub impl fmt::Display for Command as CommandDisplay {
 }
 
 /// The field that names a side.
-fn side_name(side: Side) -> &'static str {
+fn side_name(side: Side) -> &'static str
+    ensures { λ r. ⌜ now r ≡ side-text side ⌝ }
+{
     match side {
         Side::Upper => "upper",
         Side::Lower => "lower",

@@ -1,4 +1,6 @@
 ghost use mathlib.Core.Path.{_≡_};
+ghost use Rattle.std.specs.declared.option.Option.the-variants.{Some};
+ghost use Rattle.lines.specs.Texts.{malformed-text};
 ghost use Rattle.lines.specs.declared.malformed.Malformed.the-variants.{Memory};
 use std::alloc::Refused;
 use std::fmt;
@@ -21,6 +23,8 @@ pub enum Malformed {
 }
 
 pub impl fmt::Display for Malformed as MalformedDisplay {
+    ghost shown = { λ m. Some (malformed-text m) };
+
     fn fmt<W: fmt::Write>(&self, f: &mut fmt::Formatter<W>) -> fmt::Result {
         match self {
             Malformed::UnknownCommand => write!(f, "the first field is no command"),

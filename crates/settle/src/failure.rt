@@ -10,10 +10,10 @@ use std::io;
 pub enum Failure {
     /// There are not just two arguments.
     Usage,
-    /// The chart's file cannot be read.
-    Unreadable(io::Error),
-    /// The file holds no chart.
-    Chart(ReadRefusal),
+    /// The file at this path cannot be read.
+    Unreadable(String, io::Error),
+    /// The file at this path holds no chart.
+    Chart(String, ReadRefusal),
     /// TOP is no top.
     Top,
     /// The line of this number, counted from 1, is malformed.
@@ -32,8 +32,11 @@ pub impl fmt::Display for Failure as FailureDisplay {
     fn fmt<W: fmt::Write>(&self, f: &mut fmt::Formatter<W>) -> fmt::Result {
         match self {
             Failure::Usage => write!(f, "usage: settle CHART TOP < LINES"),
-            Failure::Unreadable(error) => write!(f, "settle: CHART cannot be read ({error})"),
-            Failure::Chart(refusal) => write!(f, "settle: CHART refused {refusal}"),
+            Failure::Unreadable(path, error) => write!(
+                f,
+                "settle: {path} cannot be read ({error})"
+            ),
+            Failure::Chart(path, refusal) => write!(f, "settle: {path} refused {refusal}"),
             Failure::Top => {
                 write!(
                     f,

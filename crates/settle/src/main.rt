@@ -51,15 +51,15 @@ fn file_bytes(rt: &LibcRuntime, path: &str) -> io::Result<Vec<u8>> {
 }
 
 /// The chart in a file.
-fn read_chart(rt: &LibcRuntime, path: &str) -> Result<Weighted, Failure> {
-    let bytes = match file_bytes(rt, path) {
+fn read_chart(rt: &LibcRuntime, path: String) -> Result<Weighted, Failure> {
+    let bytes = match file_bytes(rt, path.as_str()) {
         Ok(bytes) => bytes,
-        Err(error) => return Err(Failure::Unreadable(error)),
+        Err(error) => return Err(Failure::Unreadable(path, error)),
     };
     let mut chart = Weighted::fresh();
     match chart.read(bytes.as_slice()) {
         Ok(_) => Ok(chart),
-        Err(refusal) => Err(Failure::Chart(refusal)),
+        Err(refusal) => Err(Failure::Chart(path, refusal)),
     }
 }
 
@@ -78,7 +78,7 @@ fn read_top(text: &str) -> Result<Top, Failure>
 
 fn run(rt: &LibcRuntime) -> Result<(), Failure> {
     let (path, top) = arguments(rt)?;
-    let chart = read_chart(rt, path.as_str())?;
+    let chart = read_chart(rt, path)?;
     let top = read_top(top.as_str())?;
     let mut input = BufReader::new(rt.stdin());
     let mut out = BufWriter::new(rt.stdout());

@@ -1,7 +1,7 @@
 ghost use mathlib.Core.Path.{_≡_};
-ghost use mathlib.Core.Bool.{true, false, not};
+ghost use mathlib.Core.Bool.{true, false, not, _||_};
 ghost use Prim.Native.Nat.{ℕ, _+_, _*_, _%_, _≤_, _<_};
-ghost use lib.Dec.{eqb};
+ghost use lib.Dec.{eqb, ltb};
 ghost use lib.IntN.{pos};
 ghost use lib.Signed.{_≤ℤ_};
 ghost use lib.ListN.{length, getD};
@@ -25,6 +25,13 @@ use chart::table::Table;
 
 /// The most words of a pairing.
 const LONGEST: usize = 3072;
+
+/// Whether no pairing has so many words.
+fn wrong_count(count: usize) -> bool
+    ensures { λ r. ⌜ r ≡ (not (eqb (count % 3) 0) || ltb 3072 count) ⌝ }
+{
+    count % 3 != 0 || count > LONGEST
+}
 
 /// A cell of a coupling, and its amount.
 #[derive(Clone, Copy)]
@@ -145,7 +152,7 @@ impl Weighted {
         if self.unjudges(s, t) {
             return Err(Fault::Unjudged);
         }
-        if words.len() % 3 != 0 || words.len() > LONGEST {
+        if wrong_count(words.len()) {
             return Err(Fault::PairingCount(words.len()));
         }
         let Gathered { left, right, total } = self.gather(d, words)?;

@@ -1,7 +1,6 @@
 use mathlib.Core.Path.{_≡_, refl, sym, ap, _∙_}
 use mathlib.Core.Bool.{Bool, true, false, not, _||_}
 use mathlib.Core.List.{List}
-use mathlib.Core.Logic.{⊎-elim}
 use Prim.Native.Nat.{ℕ, _*_, _%_, _≤_, _<_}
 use native.Mathlib.Nat.{mul-comm, mul-le-mul-left}
 use native.Mathlib.Omega.{arith}
@@ -17,7 +16,7 @@ use Rattle.std.specs.declared.option.Option.the-variants.{Some, None}
 use Rattle.std.specs.declared.result.Result.the-variants.{Ok, Err}
 use Rattle.std.proofs.shelf.Results.{err-from-errBy}
 use Rattle.std.proofs.shelf.Signed.{toZ-ofZ}
-use Rattle.std.proofs.shelf.Tests.{or-left, or-right, not-from-false, ne-eqb, lt-ltb}
+use Rattle.std.proofs.shelf.Tests.{or-parts, not-false, eqb-true, ltb-false}
 use Rattle.finite.specs.Search.{least}
 use Rattle.finite.proofs.Search.{least-same}
 use Rattle.chart.specs.Distances.{Distances}
@@ -43,6 +42,12 @@ same-search : (c : Chain) (s : ℕ) (ws : List ℤ) (side : List ℤ → ℕ →
     → least (c .n) (λ u. not (eqb (margin side ws u) (c .part s u))) ≡ least (c .n) (λ u. not (eqb (getD got u 0) (c .part s u)))
 same-search c s ws side got few h = least-same (c .n) _ _ (λ u l. ap (λ m. not (eqb m (c .part s u))) (sym (h u (omega arith))))
 
+threes-of : (k : ℕ) → false ≡ (not (eqb (k % 3) 0) || ltb 3072 k) → k % 3 ≡ 0
+threes-of k e = eqb-true _ _ (not-false _ (or-parts (not (eqb (k % 3) 0)) (ltb 3072 k) (sym e) .0))
+
+few-of : (k : ℕ) → false ≡ (not (eqb (k % 3) 0) || ltb 3072 k) → k ≤ 3072
+few-of k e = ltb-false 3072 k (or-parts (not (eqb (k % 3) 0)) (ltb 3072 k) (sym e) .1)
+
 module _ (w : Weighted) (d : Distances) (s t : ℕ) (ws : List ℤ) (g : Gathered)
     (judged : false ≡ unjudged (chain w) s t) (threes : length ws % 3 ≡ 0) (few : length ws ≤ 3072) (gathers : Gathers (chain w) d ws g) where
   first : least (w .n) (λ u. not (eqb (margin left ws u) (chain w .part s u))) ≡ least (w .n) (λ u. not (eqb (getD (g .left) u 0) (chain w .part s u)))
@@ -64,24 +69,23 @@ module _ (w : Weighted) (d : Distances) (s t : ℕ) (ws : List ℤ) (g : Gathere
 pub returns-then-unjudges : need.returns-then-unjudges
 returns-then-unjudges c = faulty _ _ _ (pairing-unjudged _ _ _ _ (sym (c .if-unjudges .ensures tt)))
 
-pub returns-then-words-ne0 : need.returns-then-words-ne0
-returns-then-words-ne0 c = faulty _ _ _ (pairing-count _ _ _ _ (sym (c .if-unjudges .ensures tt))
-    (⊎-elim (λ ne. or-left _ _ (not-from-false _ (ne-eqb (length (c .args .words .now) % 3) 0 ne))) (λ many. or-right _ _ (lt-ltb 3072 (length (c .args .words .now)) (many .1))) (c .then-words-ne0 .either)))
+pub returns-then-wrong-count : need.returns-then-wrong-count
+returns-then-wrong-count c = faulty _ _ _ (pairing-count _ _ _ _ (sym (c .if-unjudges .ensures tt)) (sym (c .if-wrong-count .ensures tt)))
 
 pub returns-in-Break-left : need.returns-in-Break-left
 returns-in-Break-left c =
     let p = err-from-errBy (c .from-residual .result) (c .from-residual .ensures .1) in
-    p .1 ∙ ap Err (p .2) ∙ faulty _ _ _ (pairing-word _ _ _ _ (sym (c .if-unjudges .ensures tt)) (c .if-words-ne0 .left) (c .if-words-gt-LONGEST .left) _ (c .in-Break-left .ensures tt))
+    p .1 ∙ ap Err (p .2) ∙ faulty _ _ _ (pairing-word _ _ _ _ (sym (c .if-unjudges .ensures tt)) (threes-of _ (c .if-wrong-count .ensures tt)) (few-of _ (c .if-wrong-count .ensures tt)) _ (c .in-Break-left .ensures tt))
 
 pub returns-in-Some : need.returns-in-Some
 returns-in-Some c =
     faulty _ _ _ (first-wrong (c .args .self .now) (distances (c .args .d .now)) (c .args .s) (c .args .t) (c .args .words .now) (c .in-Continue-left .field-0)
-    (c .if-unjudges .ensures tt) (c .if-words-ne0 .left) (c .if-words-gt-LONGEST .left) (c .in-Continue-left .ensures tt) (c .in-Some .u) (c .in-Some .ensures tt))
+    (c .if-unjudges .ensures tt) (threes-of _ (c .if-wrong-count .ensures tt)) (few-of _ (c .if-wrong-count .ensures tt)) (c .in-Continue-left .ensures tt) (c .in-Some .u) (c .in-Some .ensures tt))
 
 pub returns-in-Some-find-margin : need.returns-in-Some-find-margin
 returns-in-Some-find-margin c =
     faulty _ _ _ (second-wrong (c .args .self .now) (distances (c .args .d .now)) (c .args .s) (c .args .t) (c .args .words .now) (c .in-Continue-left .field-0)
-    (c .if-unjudges .ensures tt) (c .if-words-ne0 .left) (c .if-words-gt-LONGEST .left) (c .in-Continue-left .ensures tt) (c .in-rest .ensures tt) (c .in-Some-find-margin .v) (c .in-Some-find-margin .ensures tt))
+    (c .if-unjudges .ensures tt) (threes-of _ (c .if-wrong-count .ensures tt)) (few-of _ (c .if-wrong-count .ensures tt)) (c .in-Continue-left .ensures tt) (c .in-rest .ensures tt) (c .in-Some-find-margin .v) (c .in-Some-find-margin .ensures tt))
 
 pub round-up-requires : need.round-up-requires
 round-up-requires c κs =
@@ -89,7 +93,7 @@ round-up-requires c κs =
     let d = c .args .d .now in
     let f : SFits w64 (c .in-Continue-left .field-0 .total) = search needs in
     let none = none-wrong w (distances d) (c .args .s) (c .args .t) (c .args .words .now) (c .in-Continue-left .field-0)
-    (c .if-unjudges .ensures tt) (c .if-words-ne0 .left) (c .if-words-gt-LONGEST .left) (c .in-Continue-left .ensures tt) (c .in-rest .ensures tt) (c .in-rest-find-margin .ensures tt) in
+    (c .if-unjudges .ensures tt) (threes-of _ (c .if-wrong-count .ensures tt)) (few-of _ (c .if-wrong-count .ensures tt)) (c .in-Continue-left .ensures tt) (c .in-rest .ensures tt) (c .in-rest-find-margin .ensures tt) in
     let few : cost (distances d) (c .args .words .now) ≤ w .whole * d .top .value
     = cost-most (chain w) (sound w) (distances d) (c .args .s) (c .args .t) (c .args .words .now) (pairing-from _ _ _ _ none) (λ u v _ _. entry-bounded d u v) in
     rw (toZ-ofZ w64 (c .in-Continue-left .field-0 .total) f, c .in-Continue-left .ensures tt .total)
@@ -102,5 +106,5 @@ returns c =
     let f : SFits w64 (c .in-Continue-left .field-0 .total) = search needs in
     let claim = ap (λ (z : ℤ). least-claim (chain w) (up z)) (toZ-ofZ w64 (c .in-Continue-left .field-0 .total) f ∙ c .in-Continue-left .ensures tt .total) in
     let none = none-wrong w d (c .args .s) (c .args .t) (c .args .words .now) (c .in-Continue-left .field-0)
-    (c .if-unjudges .ensures tt) (c .if-words-ne0 .left) (c .if-words-gt-LONGEST .left) (c .in-Continue-left .ensures tt) (c .in-rest .ensures tt) (c .in-rest-find-margin .ensures tt) in
+    (c .if-unjudges .ensures tt) (threes-of _ (c .if-wrong-count .ensures tt)) (few-of _ (c .if-wrong-count .ensures tt)) (c .in-Continue-left .ensures tt) (c .in-rest .ensures tt) (c .in-rest-find-margin .ensures tt) in
     ap Ok (c .round-up .ensures ∙ claim) ∙ ap (λ o. answer o (least-claim (chain w) (cost d (c .args .words .now)))) (sym none)
