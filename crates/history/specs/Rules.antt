@@ -61,9 +61,13 @@ claims d = how-many (λ s t. isSome (d s t))
 abbrev pub unshown : Draft → Marks → ℕ
 unshown d b = how-many (λ s t. isSome (d s t) && not (b s t))
 
+abbrev pub at-side : Side → (ℕ → ℕ → ℕ) → (ℕ → ℕ → ℕ) → ℕ → ℕ → ℕ
+at-side Upper upper lower = upper
+at-side Lower upper lower = lower
+
+-- the entries of a side
 abbrev pub side-of : Side → State → ℕ → ℕ → ℕ
-side-of Upper σ = σ .upper
-side-of Lower σ = σ .lower
+side-of e σ = at-side e (σ .upper) (σ .lower)
 
 abbrev pub with-phase : State → Phase → State
 with-phase σ p = record { upper = σ .upper; lower = σ .lower; phase = p }

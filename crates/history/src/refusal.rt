@@ -3,7 +3,7 @@ ghost use Rattle.history.specs.declared.refusal.Refusal.the-variants.{Fault};
 ghost use Rattle.history.specs.Refusals.{number};
 
 /// Why a call is refused.
-#[derive(Drop)]
+#[derive(Drop, Debug)]
 pub enum Refusal<F> {
     /// Open: a draft is open already.
     NotResting,
