@@ -8,6 +8,8 @@ use mathlib.Core.Logic.{_⊎_, inl, inr}
 use lib.Dec.{T, eqb, eqb→eq}
 use Rattle.std.specs.declared.option.Option.{Option}
 use Rattle.std.specs.declared.option.Option.the-variants.{Some, None}
+use Rattle.std.specs.declared.result.Result.{Result}
+use Rattle.std.specs.declared.result.Result.the-variants.{Ok, Err}
 use Rattle.std.specs.Options.{valueOr}
 use Rattle.chart.specs.declared.side.Side.{Side}
 use Rattle.chart.specs.declared.side.Side.the-variants.{Upper, Lower}
@@ -34,6 +36,10 @@ at-put s t x f i j = go (eqb i s) (eqb j t) (eqb→eq i s) (eqb→eq j t)
 pub cases-option : (o : Option ℕ) → (o ≡ None) ⊎ ((v : ℕ) × (o ≡ Some v))
 cases-option None = inl refl
 cases-option (Some v) = inr (v, refl)
+
+pub cases-result : {F : Type 0} (r : Result ℕ F) → ((c : ℕ) × (r ≡ Ok c)) ⊎ ((f : F) × (r ≡ Err f))
+cases-result (Ok c) = inl (c, refl)
+cases-result (Err f) = inr (f, refl)
 
 pub at-laid : (d : Draft) (f : ℕ → ℕ → ℕ) (s t : ℕ) → ((v : ℕ) × (d s t ≡ Some v) × (laid d f s t ≡ v)) ⊎ ((d s t ≡ None) × (laid d f s t ≡ f s t))
 at-laid d f s t = go (d s t)

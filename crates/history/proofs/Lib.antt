@@ -1,3 +1,5 @@
 pub mod Cases
 pub mod Peak
 pub mod Sound
+pub mod Grounds
+pub mod Outcomes

@@ -27,7 +27,7 @@ use Rattle.history.specs.Rules
 use Rattle.history.specs.Rules.{State, Phase, resting, claiming, showing, Draft, Marks, laid, side-of, with-phase, written, over, Short, Outside, Unfit, Ground, Effect, Step, refuses, accepts, Run, rest, turn, fresh, weighed-in}
 use Rattle.history.specs.Bounding.{Bounding}
 use Rattle.history.specs.Promises.{Below, Upper-supported, Lower-bounded, Lower-true}
-use Rattle.history.proofs.Cases.{absurd-bool, absurd-option, at-put, at-laid, strong, reaches, weaker-refl}
+use Rattle.history.proofs.Cases.{absurd-bool, absurd-option, at-put, at-laid, cases-result, strong, reaches, weaker-refl}
 use Rattle.history.proofs.Peak.{supported-bounding, below}
 
 -- ---- what a weighing answers
@@ -114,11 +114,10 @@ module _ {F : Type 0} (m : Meaning F) (lawful : Lawful m) (K : ℕ) where
   -- an accepted showing shows the claim
   shown-now : (σ : State) (e : Side) (d : Draft) (b : Marks) (s t : ℕ) (ws : List ℤ) (v : ℕ) → ((q : Refusal F) → Ground m K σ (Show s t ws) q → ⊥)
       → σ .phase ≡ showing e d b → d s t ≡ Some v → Shown m e (weighed-in m K e d σ) s t ws v
-  shown-now σ e d b s t ws v ok ph is = by (m .weigh e (weighed-in m K e d σ) s t ws) refl
-    where
-      by : (r : Result ℕ F) → m .weigh e (weighed-in m K e d σ) s t ws ≡ r → Shown m e (weighed-in m K e d σ) s t ws v
-      by (Ok c) w = lawful .closed e _ s t ws c v (answer-shown m lawful e _ s t ws c w) (reaches e c v (λ short. ok (Bound c) (Rules.show-55 e d b v c ph is w short)))
-      by (Err f) w = absurd (ok (Fault f) (Rules.show-54 e d b f ph w))
+  shown-now σ e d b s t ws v ok ph is = elim (cases-result (m .weigh e (weighed-in m K e d σ) s t ws)) [
+    | inl (c, w) ↦ lawful .closed e _ s t ws c v (answer-shown m lawful e _ s t ws c w) (reaches e c v (λ short. ok (Bound c) (Rules.show-55 e d b v c ph is w short)))
+    | inr (f, w) ↦ absurd (ok (Fault f) (Rules.show-54 e d b f ph w))
+  ]
 
   -- where there is no first claim that is not shown, there is none
   all-marked : (σ : State) (e : Side) (d : Draft) (b : Marks) → ((q : Refusal F) → Ground m K σ Enter q → ⊥) → σ .phase ≡ showing e d b
