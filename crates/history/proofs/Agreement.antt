@@ -1,8 +1,7 @@
 -- Two registers of the same chart agree on what is settled.
-use Prim.Native.Nat.{ℕ, _*_, _≤_, _<_}
+use Prim.Native.Nat.{ℕ, _<_}
 use native.Mathlib.Nat.{le-antisymm}
-use mathlib.Core.Path.{_≡_, sym, _∙_}
-use mathlib.Core.Bool.{Bool}
+use mathlib.Core.Path.{sym, _∙_}
 use Rattle.chart.specs.declared.side.Side.the-variants.{Upper}
 use Rattle.chart.specs.Distances.{Distances}
 use Rattle.chart.specs.Meaning.{Meaning, Judged}
@@ -42,10 +41,10 @@ module _ {F G : Type 0} (m : Meaning F) (o : Meaning G) (same : Same m o) where
     judged = λ s t j low. let (ws, shown) = sup .judged s t (judged-same j) low in (ws, same .shown Upper d s t ws (d .entry s t) .0 shown);
   }
 
-module _ {F G : Type 0} (m : Meaning F) (o : Meaning G) (lawful : Lawful m) (lawful′ : Lawful o) (same : Same m o) where
-  pub settled-agree : Settled-agree m o
-  settled-agree K k σ h run J j τ g run′ s t jd settled settled′ =
-      let other = judged-same o m (same-sym m o same) jd in
-      let one = lower-true m lawful K k σ h run (over J (τ .upper)) (supported-same o m (same-sym m o same) _ (upper-supported o lawful′ J j τ g run′)) s t (jd .first-in) (jd .second-in) in
-      let two = lower-true o lawful′ J j τ g run′ (over K (σ .upper)) (supported-same m o same _ (upper-supported m lawful K k σ h run)) s t (other .first-in) (other .second-in) in
-      le-antisymm (rw settled at one) (rw settled′ at two)
+pub settled-agree : {F G : Type 0} (m : Meaning F) (o : Meaning G) → Lawful m → Lawful o → Settled-agree m o
+settled-agree m o lawful lawful′ same K k σ h run J j τ g run′ s t jd settled settled′ =
+    let back = same-sym m o same in
+    let jd′ = judged-same o m back jd in
+    let one = lower-true m lawful K k σ h run (over J (τ .upper)) (supported-same o m back _ (upper-supported o lawful′ J j τ g run′)) s t (jd .first-in) (jd .second-in) in
+    let two = lower-true o lawful′ J j τ g run′ (over K (σ .upper)) (supported-same m o same _ (upper-supported m lawful K k σ h run)) s t (jd′ .first-in) (jd′ .second-in) in
+    le-antisymm (rw settled at one) (rw settled′ at two)

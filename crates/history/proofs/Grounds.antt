@@ -1,10 +1,10 @@
 -- Calls that there is no ground to refuse.
-use Prim.Native.Nat.{ℕ, zero, suc, _≤_, _<_}
+use Prim.Native.Nat.{ℕ, _<_}
 use native.Mathlib.Omega.{arith}
 use mathlib.Core.Path.{_≡_, ap}
 use mathlib.Core.Bool.{Bool, true, false, cond}
 use mathlib.Core.List.{List}
-use mathlib.Core.Logic.{_⊎_, inl, inr}
+use mathlib.Core.Logic.{inl, inr}
 use lib.IntN.{ℤ}
 use Rattle.std.specs.declared.option.Option.the-variants.{Some, None}
 use Rattle.std.specs.declared.result.Result.the-variants.{Ok}
@@ -17,7 +17,7 @@ use Rattle.chart.specs.Meaning.{Meaning, Judged}
 use Rattle.history.specs.declared.refusal.Refusal.{Refusal}
 use Rattle.history.specs.Calls.{Call, Open, Claim, Close, Show, Enter}
 use Rattle.history.specs.Rules
-use Rattle.history.specs.Rules.{State, resting, claiming, showing, Draft, Marks, side-of, claims, Short, Outside, Unfit, Ground, weighed-in}
+use Rattle.history.specs.Rules.{State, resting, claiming, showing, Draft, Marks, side-of, Short, Outside, Unfit, Ground, weighed-in}
 use Rattle.history.proofs.Cases.{never, absurd-bool, absurd-option}
 use Rattle.history.proofs.Sound.{Fits}
 

@@ -11,8 +11,7 @@ use Rattle.chart.specs.declared.side.Side.the-variants.{Lower}
 use Rattle.chart.specs.Distances.{Distances}
 use Rattle.chart.specs.Meaning.{Meaning, Judged, Shown}
 use Rattle.chart.specs.Laws.{Lawful, Within}
-use Rattle.chart.specs.Supported.{Supported}
-use Rattle.history.specs.Bounding.{Bounding}
+use Rattle.history.specs.Bounding.{Bounding, Supported-is-bounding}
 use Rattle.history.specs.Promises.{Below}
 
 -- the greatest of the values at the numbers below n
@@ -39,11 +38,11 @@ too-much : (a b p q k : ℕ) → a < b → 1 ≤ k → q + k ≡ p → b * p ≤
 too-much a b p q k lt some e h = omega (arith, ap (λ z. b * z) e, mul-le-mul-right k lt)
 
 module _ {F : Type 0} (m : Meaning F) (lawful : Lawful m) where
-  pub supported-bounding : (e : Distances) → Supported m e → Bounding m e
+  pub supported-bounding : Supported-is-bounding m
   supported-bounding e sup = record {
     top-least = sup .top-least;
     apart = sup .apart;
-    judged = λ s t j low l potentials x k shown near.
+    holds = λ s t j low l potentials x k shown near.
         let (pairing, paired) = sup .judged s t j low in
         lawful .cross l e s t potentials pairing x (e .entry s t) k (sup .top-least) shown paired near;
   }
@@ -57,7 +56,7 @@ module _ {F : Type 0} (m : Meaning F) (lawful : Lawful m) where
   none-over l e s t k bounding (inl under) some is most = omega arith
   none-over l e s t k bounding (inr (j, high, (ws, shown))) some is most =
       elim (decLt (e .entry s t) (e .top)) [
-        | yes low ↦ too-much _ _ _ _ k (lawful .discounted) some is (bounding .judged s t j low l ws _ k shown most)
+        | yes low ↦ too-much _ _ _ _ k (lawful .discounted) some is (bounding .holds s t j low l ws _ k shown most)
         | no no-low ↦ let top : e .top ≤ e .entry s t = omega arith in omega (arith, mul-le-mul-right (e .top) high, mul-le-mul-right (l .top) top)
       ]
 

@@ -1,14 +1,13 @@
 -- A history tells whether the register rests.
 use Prim.Native.Nat.{ℕ}
 use mathlib.Core.Path.{_≡_, refl}
-use mathlib.Core.List.{List, [], _∷_}
+use mathlib.Core.List.{List}
 use mathlib.Core.Logic.{_⊎_, inl, inr, _≢_, _↔_}
 use Rattle.std.specs.declared.result.Result.{Result}
 use Rattle.std.specs.declared.result.Result.the-variants.{Ok, Err}
 use Rattle.chart.specs.declared.side.Side.{Side}
 use Rattle.chart.specs.declared.side.Side.the-variants.{Upper, Lower}
 use Rattle.chart.specs.Meaning.{Meaning}
-use Rattle.chart.specs.Laws.{Lawful}
 use Rattle.history.specs.declared.refusal.Refusal.{Refusal}
 use Rattle.history.specs.Calls.{Call, Open, Enter, Abandon, Answer, Page}
 use Rattle.history.specs.Rules

@@ -1,18 +1,16 @@
 -- Sending a full certificate.
-use Prim.Native.Nat.{ℕ, zero, suc, _+_, _*_, _≤_, _<_}
+use Prim.Native.Nat.{ℕ, _≤_, _<_}
 use native.Mathlib.Omega.{arith}
 use native.Mathlib.Decide.{decLt}
 use native.Mathlib.Nat.{le-of-mul-le-mul-right}
 use mathlib.Core.Path.{_≡_, refl, sym, ap, ap₂, _∙_}
 use mathlib.Core.Bool.{Bool, true, false, cond, _&&_, _||_, or-true}
 use mathlib.Core.List.{List, [], _∷_, _++_, map}
-use mathlib.Core.Logic.{_⊎_, inl, inr}
+use mathlib.Core.Logic.{inl, inr}
 use lib.Dec.{T, eqb, eqb→eq}
 use lib.IntN.{ℤ}
-use Rattle.std.specs.declared.option.Option.{Option}
 use Rattle.std.specs.declared.option.Option.the-variants.{Some, None}
-use Rattle.std.specs.declared.result.Result.{Result}
-use Rattle.std.specs.declared.result.Result.the-variants.{Ok, Err}
+use Rattle.std.specs.declared.result.Result.the-variants.{Ok}
 use Rattle.std.proofs.shelf.Tests.{cases-bool, eq-eqb}
 use Rattle.chart.specs.declared.side.Side.{Side}
 use Rattle.chart.specs.declared.side.Side.the-variants.{Upper, Lower}
@@ -22,12 +20,11 @@ use Rattle.chart.specs.Meaning.{Meaning, Judged, Shown}
 use Rattle.chart.specs.Laws.{Lawful, Tighter}
 use Rattle.chart.specs.Supported.{Supported}
 use Rattle.chart.specs.Tops.{InRange}
-use Rattle.history.specs.declared.refusal.Refusal.{Refusal}
-use Rattle.history.specs.Calls.{Call, Open, Claim, Close, Show, Enter, Ask, Answer, Page}
+use Rattle.history.specs.Calls.{Call, Show, Answer, Page}
 use Rattle.history.specs.Rules
-use Rattle.history.specs.Rules.{State, resting, claiming, showing, Draft, Marks, put, laid, side-of, with-phase, written, over, Short, Ground, Effect, Step, refuses, accepts, Run, rest, turn}
+use Rattle.history.specs.Rules.{State, resting, claiming, showing, Draft, Marks, put, laid, side-of, with-phase, written, over, Effect, refuses, accepts, Run, rest, turn}
 use Rattle.history.specs.Certificate.{Certificate, Pair, among, Distinct, Lists, claim-of, show-of, draft-calls, Positive, Sent, all-0, some-above}
-use Rattle.history.specs.Promises.{calls, Each-accepted, Settles, Enters, Takes-certificates, Certificate-enters}
+use Rattle.history.specs.Promises.{calls, Each-accepted, Settles, Enters, Certificate-enters}
 use Rattle.history.proofs.Cases.{never, absurd-bool, absurd-option, at-put, cases-result, short-reaches, weaker-refl}
 use Rattle.history.proofs.Peak.{supported-bounding, below}
 use Rattle.history.proofs.Sound.{Sound, always-sound, Fits, answer-strongest, fault-unshown}

@@ -1,13 +1,13 @@
 -- What holds of every state that a history leads to.
-use Prim.Native.Nat.{ℕ, _*_, _≤_, _<_}
+use Prim.Native.Nat.{ℕ, _≤_, _<_}
 use native.Mathlib.Omega.{arith}
 use native.Mathlib.Decide.{decLe, decLt}
 use mathlib.Core.Path.{_≡_, refl, subst}
-use mathlib.Core.Bool.{Bool, true, false}
+use mathlib.Core.Bool.{true, false}
 use mathlib.Core.List.{List}
 use mathlib.Core.Logic.{inl, inr}
 use lib.IntN.{ℤ}
-use Rattle.std.specs.declared.option.Option.the-variants.{Some, None}
+use Rattle.std.specs.declared.option.Option.the-variants.{Some}
 use Rattle.std.specs.declared.result.Result.{Result}
 use Rattle.std.specs.declared.result.Result.the-variants.{Ok, Err}
 use Rattle.std.proofs.shelf.Tests.{cases-bool, lt-ltb}
@@ -24,7 +24,7 @@ use Rattle.history.specs.declared.refusal.Refusal.{Refusal}
 use Rattle.history.specs.declared.refusal.Refusal.the-variants.{ClaimOutside, ClaimApart, ClaimValue, Fault, Bound, Unshown}
 use Rattle.history.specs.Calls.{Call, Show, Enter, Answer, Page}
 use Rattle.history.specs.Rules
-use Rattle.history.specs.Rules.{State, Phase, resting, claiming, showing, Draft, Marks, laid, side-of, with-phase, written, over, Short, Outside, Unfit, Ground, Effect, Step, refuses, accepts, Run, rest, turn, fresh, weighed-in}
+use Rattle.history.specs.Rules.{State, Phase, resting, claiming, showing, Draft, Marks, laid, side-of, with-phase, written, over, Outside, Unfit, Ground, Effect, Step, refuses, accepts, Run, rest, turn, fresh, weighed-in}
 use Rattle.history.specs.Bounding.{Bounding}
 use Rattle.history.specs.Promises.{Below, Upper-supported, Lower-bounded, Lower-true}
 use Rattle.history.proofs.Cases.{absurd-bool, absurd-option, at-put, at-laid, cases-result, strong, reaches, weaker-refl}

@@ -52,7 +52,7 @@ Lower-true m = Always m (λ K σ h. (e : Distances) → Supported m e → Below 
 
 -- what is settled in two registers of the same chart is the same distance, whatever the tops and the histories
 abbrev pub Settled-agree : {F G : Type 0} → Meaning F → Meaning G → Type 0
-Settled-agree m o = Always m (λ K σ h. Always o (λ J τ g.
+Settled-agree m o = Same m o → Always m (λ K σ h. Always o (λ J τ g.
     (s t : ℕ) → Judged m s t → σ .lower s t ≡ σ .upper s t → τ .lower s t ≡ τ .upper s t → σ .upper s t * J ≡ τ .upper s t * K))
 
 -- ---- full certificates
