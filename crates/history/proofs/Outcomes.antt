@@ -29,14 +29,15 @@ use Rattle.history.proofs.Grounds.{inside, showable, enterable}
 
 -- ---- a refusal that carries nothing is told by its number
 
-abbrev bare-ones : {F : Type 0} → List (Refusal F)
+abbrev pub bare-ones : {F : Type 0} → List (Refusal F)
 bare-ones = NotResting ∷ NotClaiming ∷ ClaimOutside ∷ ClaimApart ∷ ClaimedTwice ∷ ClaimValue ∷ CloseNotClaiming ∷ NoClaims ∷ NotShowing ∷ ShowOutside ∷ NoClaim ∷ ShownAlready ∷ EnterNotShowing ∷ Resting ∷ AskOutside ∷ []
 
-find : {F : Type 0} → ℕ → List (Refusal F) → Option (Refusal F)
+unfoldable pub find : {F : Type 0} → ℕ → List (Refusal F) → Option (Refusal F)
 find k [] = None
 find k (r ∷ rs) = cond (eqb k (number r)) (Some r) (find k rs)
 
-numbered : {F : Type 0} → ℕ → Option (Refusal F)
+-- the refusal of that number, if it carries nothing
+unfoldable pub numbered : {F : Type 0} → ℕ → Option (Refusal F)
 numbered k = find k bare-ones
 
 data Kind {F : Type 0} : Refusal F → Type 0 where
@@ -175,7 +176,7 @@ cases-phase (claiming e d) = claims-on e d refl
 cases-phase (showing e d b) = shows-on e d b refl
 
 -- the first and the last number of a call's refusals
-abbrev span : Call → ℕ × ℕ
+abbrev pub span : Call → ℕ × ℕ
 span (Open e) = (20, 20)
 span (Claim s t v) = (30, 34)
 span Close = (40, 41)
@@ -206,7 +207,7 @@ module _ {F : Type 0} (m : Meaning F) (K : ℕ) where
   spanned (Rules.ask-80 h) = omega arith
 
   -- no ground has a number below k
-  From : State → Call → ℕ → Type 0
+  abbrev pub From : State → Call → ℕ → Type 0
   From σ c k = (q : Refusal F) → Ground m K σ c q → k ≤ number q
 
   abbrev Some-outcome : State → Call → Type 0
@@ -242,26 +243,26 @@ module _ {F : Type 0} (m : Meaning F) (K : ℕ) where
     cases-resting (shows-on e d b h) = inr (λ k. never (cc))
 
     module _ (c : Call) where
-      start : From σ c (span c .0)
-      unfolding From
+      pub start : From σ c (span c .0)
       start q g = spanned g .0
 
       refuse : (r : Refusal F) → Ground m K σ c r → From σ c (number r) → Some-outcome σ c
-      unfolding From
       refuse r g low = (Err r, σ, refuses r g low)
 
       accept : {a : Answer} {τ : State} → From σ c (suc (span c .1)) → Effect m K σ c a τ → Some-outcome σ c
-      unfolding From
       accept low f = (_, _, accepts (λ q g. omega (arith, low q g, spanned g .1)) f)
 
-      -- one check of those that carry nothing: where it passes, the next follows
-      check : (r : Refusal F) → numbered (number r) ≡ Some r → From σ c (number r) → (Ground m K σ c r) ⊎ (Ground m K σ c r → ⊥) → (From σ c (suc (number r)) → Some-outcome σ c) → Some-outcome σ c
-      unfolding From
-      check r is low (inl g) next = refuse r g low
-      check r is low (inr not) next = next (λ q g. elim (decLt (number r) (number q)) [
+      -- there is no ground for this refusal, which carries nothing
+      pub passed : (r : Refusal F) → numbered (number r) ≡ Some r → From σ c (number r) → (Ground m K σ c r → ⊥) → From σ c (suc (number r))
+      passed r is low not q g = elim (decLt (number r) (number q)) [
         | yes l ↦ l
         | no l ↦ let e : r ≡ q = same-bare r q is (omega (arith, low q g)) in absurd (not (rw (← e) at g))
-      ])
+      ]
+
+      -- the refusal, or what follows it
+      check : (r : Refusal F) → numbered (number r) ≡ Some r → From σ c (number r) → (Ground m K σ c r) ⊎ (Ground m K σ c r → ⊥) → (From σ c (suc (number r)) → Some-outcome σ c) → Some-outcome σ c
+      check r is low (inl g) next = refuse r g low
+      check r is low (inr not) next = next (passed r is low not)
 
     open-outcome : (e : Side) → Some-outcome σ (Open e)
     unfolding find numbered
@@ -305,8 +306,7 @@ module _ {F : Type 0} (m : Meaning F) (K : ℕ) where
     ]
 
     -- where the weighing answers, no ground is a fault
-    past-faults : (s t c : ℕ) (ws : List ℤ) (e : Side) (d : Draft) (b : Marks) → σ .phase ≡ showing e d b → m .weigh e (weighed-in m K e d σ) s t ws ≡ Ok c → From σ (Show s t ws) 54 → From σ (Show s t ws) 55
-    unfolding From
+    pub past-faults : (s t c : ℕ) (ws : List ℤ) (e : Side) (d : Draft) (b : Marks) → σ .phase ≡ showing e d b → m .weigh e (weighed-in m K e d σ) s t ws ≡ Ok c → From σ (Show s t ws) 54 → From σ (Show s t ws) 55
     past-faults s t c ws e d b ph w low q (Rules.show-50 n) = omega (arith, low q (Rules.show-50 n))
     past-faults s t c ws e d b ph w low q (Rules.show-51 o) = omega (arith, low q (Rules.show-51 o))
     past-faults s t c ws e d b ph w low q (Rules.show-52 e′ d′ b′ ph′ none) = omega (arith, low q (Rules.show-52 e′ d′ b′ ph′ none))
