@@ -17,7 +17,7 @@ pub data Call : Type 0 where
   Ask : ℕ → ℕ → Call  -- of two sections: their entries
 
 pub data Answer : Type 0 where
-  count : ℕ → Answer
+  count : ℕ → Answer  -- of the draft's claims; after a showing, of those that are not yet shown
   entries : ℕ → ℕ → Verdict → Answer  -- the lower entry and the upper one
 
 -- a call, and its answer or refusal; a history is a list of pages

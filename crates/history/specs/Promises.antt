@@ -28,7 +28,7 @@ Below n l e = (s t : ℕ) → s < n → t < n → l .entry s t * e .top ≤ e .e
 
 -- ---- one call
 
--- one outcome and one state after it
+-- the call has an outcome and a state after it, and no other
 abbrev pub One-outcome : {F : Type 0} → Meaning F → ℕ → State → Call → Type 0
 One-outcome {F} m K σ c =
     (o : Result Answer (Refusal F)) × (τ : State) × Step m K σ c o τ × ((o′ : Result Answer (Refusal F)) (τ′ : State) → Step m K σ c o′ τ′ → (o ≡ o′) × (τ ≡ τ′))
@@ -81,7 +81,7 @@ module _ {F : Type 0} (m : Meaning F) (K : ℕ) where
     pub sends : calls pages ≡ cs
     pub settles : (h : List (Page F)) (τ : State) → Run m K σ h τ → calls h ≡ cs → Each-accepted h × Settles cert τ
 
-  -- at rest, every full certificate can be sent
+  -- at rest, every full certificate can be sent, and is settled then
   abbrev pub Takes-certificates : State → Type 0
   Takes-certificates σ = σ .phase ≡ resting → (cert : Certificate m K) (cs : List Call) → Sent m K cert cs → Enters cert σ cs
 
@@ -116,7 +116,7 @@ Rests-by-history m = Always m (λ K σ h. (σ .phase ≡ resting) ↔ Each-ended
 
 -- ---- one register
 
--- what a register of the chart m over the top K, in the state σ after the history h, promises
+-- what a register of the chart m over the top K promises, in the state σ that the history h led to
 pub record Promise {F : Type 0} (m : Meaning F) (K : ℕ) (σ : State) (h : List (Page F)) : Type 0 where
   pub upper : Supported m (over K (σ .upper))
   pub lower : (e : Distances) → Supported m e → Below (m .sections) (over K (σ .lower)) e
@@ -125,6 +125,6 @@ pub record Promise {F : Type 0} (m : Meaning F) (K : ℕ) (σ : State) (h : List
   pub certificates : Takes-certificates m K σ
   pub outcome : (c : Call) → One-outcome m K σ c
 
--- whatever history leads to the state
+-- it keeps the promise, whatever history led to the state
 abbrev pub Keeps : {F : Type 0} → Meaning F → ℕ → State → Type 0
 Keeps {F} m K σ = (h : List (Page F)) → Run m K (fresh m K) h σ → Promise m K σ h

@@ -24,23 +24,26 @@ number (Unshown s t) = 61
 number Resting = 70
 number AskOutside = 80
 
--- the number and what the refusal carries, where the first argument tells the numbers of a fault
+-- what a refusal carries, where the first argument tells the numbers of a fault
+abbrev pub carried : {F : Type 0} → (F → List ℕ) → Refusal F → List ℕ
+carried fault NotResting = []
+carried fault NotClaiming = []
+carried fault ClaimOutside = []
+carried fault ClaimApart = []
+carried fault ClaimedTwice = []
+carried fault ClaimValue = []
+carried fault CloseNotClaiming = []
+carried fault NoClaims = []
+carried fault NotShowing = []
+carried fault ShowOutside = []
+carried fault NoClaim = []
+carried fault ShownAlready = []
+carried fault (Fault f) = fault f
+carried fault (Bound c) = c ∷ []
+carried fault EnterNotShowing = []
+carried fault (Unshown s t) = s ∷ t ∷ []
+carried fault Resting = []
+carried fault AskOutside = []
+
 abbrev pub numbers : {F : Type 0} → (F → List ℕ) → Refusal F → List ℕ
-numbers fault NotResting = 20 ∷ []
-numbers fault NotClaiming = 30 ∷ []
-numbers fault ClaimOutside = 31 ∷ []
-numbers fault ClaimApart = 32 ∷ []
-numbers fault ClaimedTwice = 33 ∷ []
-numbers fault ClaimValue = 34 ∷ []
-numbers fault CloseNotClaiming = 40 ∷ []
-numbers fault NoClaims = 41 ∷ []
-numbers fault NotShowing = 50 ∷ []
-numbers fault ShowOutside = 51 ∷ []
-numbers fault NoClaim = 52 ∷ []
-numbers fault ShownAlready = 53 ∷ []
-numbers fault (Fault f) = 54 ∷ fault f
-numbers fault (Bound c) = 55 ∷ c ∷ []
-numbers fault EnterNotShowing = 60 ∷ []
-numbers fault (Unshown s t) = 61 ∷ s ∷ t ∷ []
-numbers fault Resting = 70 ∷ []
-numbers fault AskOutside = 80 ∷ []
+numbers fault r = number r ∷ carried fault r

@@ -13,7 +13,7 @@ pub enum Refusal<F> {
     ClaimOutside,
     /// Claim: the sections are apart.
     ClaimApart,
-    /// Claim: the draft has a claim for the pair.
+    /// Claim: the draft has a claim for the pair already.
     ClaimedTwice,
     /// Claim: an upper value is above the entry, or a lower one is below it or above the top.
     ClaimValue,
