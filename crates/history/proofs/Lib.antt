@@ -1,0 +1,9 @@
+pub mod Cases
+pub mod Peak
+pub mod Sound
+pub mod Grounds
+pub mod Outcomes
+pub mod Sending
+pub mod Resting
+pub mod Agreement
+pub mod Promises
