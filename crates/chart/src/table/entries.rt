@@ -1,5 +1,5 @@
 ghost use mathlib.Core.Path.{_≡_};
-ghost use Rattle.chart.specs.Tables.{distances};
+ghost use Rattle.chart.specs.Tables.{distances, capped, overlaid};
 ghost use Rattle.chart.specs.Starting.{judged-pair, start-entry, start-table};
 use crate::kind::Chart;
 use crate::side::Side;
@@ -36,6 +36,31 @@ impl Table {
         } else {
             self.top()
         }
+    }
+
+    /// The table with these values in place of its entries; a value above the top counts as the top.
+    pub fn overlaid(&self, values: &[Option<u32>; CELLS]) -> Table
+        ensures { λ r. ⌜ distances r ≡ overlaid (now (values .entry)) (distances (now (self .entry))) ⌝ }
+    {
+        let mut cells = [0; CELLS];
+        for i in 0..CELLS {
+            cells[i] = capped(values[i], self.cells[i], self.top.value());
+        }
+        Table {
+            top: self.top,
+            cells,
+        }
+    }
+}
+
+/// The value, at most the limit, or the entry where there is none.
+fn capped(given: Option<u32>, old: u32, limit: u32) -> u32
+    ensures { λ r. ⌜ r ≡ capped given old limit ⌝ }
+{
+    match given {
+        Some(v) if v <= limit => v,
+        Some(_) => limit,
+        None => old,
     }
 }
 
