@@ -1,14 +1,12 @@
 -- The cells of a table in which a register starts.
-use Rattle.std.proofs.Common.{◌≡◌, ℕ, ◌+◌, ◌*◌, ◌/◌, ◌%◌, ◌<◌, ◌≤◌, Bool, true, false, cond, not, ◌&&◌, ltb, List, length, get_or, sym, refl, ap, ◌∙◌, ⊎_elim, arith}
-use mathlib.Core.Path.{fun_ext}
+use Rattle.std.proofs.Common.{◌≡◌, ℕ, ◌+◌, ◌*◌, ◌/◌, ◌%◌, ◌<◌, ◌≤◌, Bool, true, false, cond, not, ◌&&◌, ltb, List, length, get_or, sym, refl, ◌∙◌, ⊎_elim, arith}
 use Rattle.std.proofs.lemmas.Nat.{div-mul-add, mod-mul-add, mul-add-lt}
 use Rattle.std.proofs.lemmas.List.{get_or_past}
 use Rattle.std.proofs.lemmas.Bool.{cases_lt, lt-ltb, le-ltb}
 use Rattle.chart.specs.declared.side.Side.{Side}
 use Rattle.chart.specs.declared.side.Side.TheVariants.{Upper, Lower}
-use Rattle.chart.specs.Distances.{Distances}
 use Rattle.chart.specs.Meaning.{Meaning}
-use Rattle.chart.specs.Starting.{judged_pair, start_entry, start_table}
+use Rattle.chart.specs.Starting.{judged_pair, start_entry}
 use Rattle.chart.specs.Tables.{cell}
 
 pub start_bounded : (side : Side) (judged : Bool) (top : ℕ) → start_entry side judged top ≤ top

@@ -5,6 +5,9 @@
 //! where the routes begin, and how many bytes the file has. The bands are a byte for each section. The routes
 //! of a weighted chart are a row for each section, with 16 bits for each section. The bands and the routes
 //! lie after the header and share no byte, and the other bytes are ignored.
+
+#![tactic(auto)]
+
 pub mod bytes;
 pub mod header;
 pub mod kind;

@@ -1,6 +1,6 @@
 -- Laws of sums over the numbers below n.
-use Rattle.std.proofs.Common.{◌≡◌, ℕ, zero, suc, ◌+◌, ◌*◌, ◌<◌, ◌≤◌, Bool, true, false, cond, eqb, ◌⊎◌, ℤ, pos, ◌+ℤ◌, sym, refl, ap, ◌∙◌, inl, inr, ⊎_elim, mul_comm, mul-zero, mul-add, arith}
-use borrow.Author.Differences.{up, down, ints, sum_is_lem}
+use Rattle.std.proofs.Common.{◌≡◌, ℕ, zero, suc, ◌+◌, ◌*◌, ◌<◌, ◌≤◌, cond, eqb, ℤ, sym, refl, ap, ◌∙◌, ⊎_elim, mul_comm, mul-zero, mul-add, arith}
+use borrow.Author.Differences.{up, down, sum_is_lem}
 use Rattle.std.proofs.lemmas.Bool.{cases_eq, cond-true, cond-false, eq-eqb, ne_eqb}
 use Rattle.finite.specs.Sums.{sum, sumℤ}
 

@@ -11,7 +11,7 @@ use Rattle.history.specs.Refusals.{number}
 use Rattle.history.specs.Calls.{Call, Open, Claim, Close, Show, Enter, Abandon, Ask, Answer}
 use Rattle.history.specs.Rules
 use Rattle.history.specs.Rules.{State, Phase, resting, claiming, showing, Draft, Marks, claims, Before, Outside, Unfit, Ground, Effect, Step, refuses, accepts, weighed_in}
-use Rattle.history.specs.Promises.{OneOutcome}
+use Rattle.history.specs.Promises.{EachCallHasOneOutcome}
 use Rattle.history.proofs.Cases.{never, absurd_bool, absurd_option, cases_option, cases_result, cases_short}
 use Rattle.history.proofs.Grounds.{inside, showable, enterable}
 
@@ -31,7 +31,7 @@ numbered k = find k bare_ones
 data Kind {F : Type 0} : Refusal F → Type 0 where
   bare : {r : Refusal F} → numbered (number r) ≡ Some r → Kind r
   of_fault : (f : F) → Kind (Fault f)
-  of_bound : (e : Side) (c : ℕ) → Kind (Bound e c)
+  of_bound : (c : ℕ) → Kind (Bound c)
   of_pair : (s t : ℕ) → Kind (Unshown s t)
 
 kind : {F : Type 0} (r : Refusal F) → Kind r
@@ -49,7 +49,7 @@ kind ShowOutside = bare refl
 kind NoClaim = bare refl
 kind ShownAlready = bare refl
 kind (Fault f) = of_fault f
-kind (Bound e c) = of_bound e c
+kind (Bound c) = of_bound c
 kind EnterNotShowing = bare refl
 kind (Unshown s t) = of_pair s t
 kind Resting = bare refl
@@ -65,7 +65,7 @@ same_bare {F} r q is e = by q e (kind q)
     by : (q : Refusal F) → number r ≡ number q → Kind q → r ≡ q
     by q e (bare is') = let n = ap (numbered {F = F}) e in cc
     by q e (of_fault f) = let n = ap (numbered {F = F}) e in let u = unnumbered {F = F} in never (cc)
-    by q e (of_bound x c) = let n = ap (numbered {F = F}) e in let u = unnumbered {F = F} in never (cc)
+    by q e (of_bound c) = let n = ap (numbered {F = F}) e in let u = unnumbered {F = F} in never (cc)
     by q e (of_pair s t) = let n = ap (numbered {F = F}) e in let u = unnumbered {F = F} in never (cc)
 
 -- ---- two outcomes of a call are one
@@ -90,11 +90,11 @@ module _ {F : Type 0} (m : Meaning F) (K : ℕ) where
       let r : d' ≡ d = cc in
       cc
 
-  one_bound : {σ : State} {c : Call} (x y : Side) (u v : ℕ) → Ground m K σ c (Bound x u) → Ground m K σ c (Bound y v) → (x ≡ y) × (u ≡ v)
-  one_bound _ _ u v (Rules.show_55 e d b x _ ph is w short) (Rules.show_55 e' d' b' y _ ph' is' w' short') =
+  one_bound : {σ : State} {c : Call} (u v : ℕ) → Ground m K σ c (Bound u) → Ground m K σ c (Bound v) → u ≡ v
+  one_bound u v (Rules.show_55 e d b x _ ph is w short) (Rules.show_55 e' d' b' y _ ph' is' w' short') =
       let p : e' ≡ e = cc in
       let r : d' ≡ d = cc in
-      (sym p, cc)
+      cc
 
   one_pair : {σ : State} {c : Call} (s t x y : ℕ) → Ground m K σ c (Unshown s t) → Ground m K σ c (Unshown x y) → (s ≡ x) × (t ≡ y)
   one_pair s t x y (Rules.enter_61 e d b _ _ v ph hs ht is none first) (Rules.enter_61 e' d' b' _ _ v' ph' hx hy is' none' first') =
@@ -114,15 +114,15 @@ module _ {F : Type 0} (m : Meaning F) (K : ℕ) where
       by r q g h e (bare is) k = same_bare r q is e
       by r q g h e (of_fault f) (bare is) = sym (same_bare q r is (sym e))
       by r q g h e (of_fault f) (of_fault f') = ap Fault (one_fault f f' g h)
-      by r q g h e (of_fault f) (of_bound x c) = absurd (omega arith)
+      by r q g h e (of_fault f) (of_bound c) = absurd (omega arith)
       by r q g h e (of_fault f) (of_pair s t) = absurd (omega arith)
-      by r q g h e (of_bound x c) (bare is) = sym (same_bare q r is (sym e))
-      by r q g h e (of_bound x c) (of_fault f) = absurd (omega arith)
-      by r q g h e (of_bound x c) (of_bound y c') = let (p, r) = one_bound x y c c' g h in rw (p, r)
-      by r q g h e (of_bound x c) (of_pair s t) = absurd (omega arith)
+      by r q g h e (of_bound c) (bare is) = sym (same_bare q r is (sym e))
+      by r q g h e (of_bound c) (of_fault f) = absurd (omega arith)
+      by r q g h e (of_bound c) (of_bound c') = ap Bound (one_bound c c' g h)
+      by r q g h e (of_bound c) (of_pair s t) = absurd (omega arith)
       by r q g h e (of_pair s t) (bare is) = sym (same_bare q r is (sym e))
       by r q g h e (of_pair s t) (of_fault f) = absurd (omega arith)
-      by r q g h e (of_pair s t) (of_bound x c) = absurd (omega arith)
+      by r q g h e (of_pair s t) (of_bound c) = absurd (omega arith)
       by r q g h e (of_pair s t) (of_pair x y) = let (p, r) = one_pair s t x y g h in rw (p, r)
 
   one_effect : {σ : State} {c : Call} {a : Answer} {ρ : State} {a' : Answer} {τ : State} → Effect m K σ c a ρ → Effect m K σ c a' τ → (a ≡ a') × (ρ ≡ τ)
@@ -328,7 +328,7 @@ module _ {F : Type 0} (m : Meaning F) (K : ℕ) where
                                 elim (cases_result (m.weigh e (weighed_in m K e d σ) s t ws)) [
                                   | inr (f, w) ↦ refuse c (Fault f) (Rules.show_54 e d b f ph w) low
                                   | inl (x, w) ↦ elim (cases_short e x v) [
-                                    | inl short ↦ refuse c (Bound e x) (Rules.show_55 e d b v x ph is w short) (past_faults s t x ws e d b ph w low)
+                                    | inl short ↦ refuse c (Bound x) (Rules.show_55 e d b v x ph is w short) (past_faults s t x ws e d b ph w low)
                                     | inr reach ↦ (_, _, accepts (showable m K σ e d b s t v x ws ph i is none w reach) (Rules.shown e d b ph))
                                   ]
                                 ]
@@ -379,5 +379,5 @@ module _ {F : Type 0} (m : Meaning F) (K : ℕ) where
     outcome Abandon = abandon_outcome
     outcome (Ask s t) = ask_outcome s t
 
-  pub one_outcome : (σ : State) (c : Call) → OneOutcome m K σ c
+  pub one_outcome : EachCallHasOneOutcome m K
   one_outcome σ c = let (o, τ, step) = outcome σ c in (o, τ, step, λ o' τ' step'. one_step m K step step')

@@ -7,7 +7,7 @@ use Rattle.history.specs.declared.refusal.Refusal.{Refusal}
 use Rattle.history.specs.Calls.{Call, Open, Enter, Abandon, Answer, Page}
 use Rattle.history.specs.Rules
 use Rattle.history.specs.Rules.{State, Phase, resting, Draft, written, Effect, Step, refuses, accepts, Run, rest, turn}
-use Rattle.history.specs.Promises.{Accepted, Opens, Ends, SomeEnds, EachEnded, Always}
+use Rattle.history.specs.Promises.{Accepted, Opens, Ends, SomeEnds, EachEnded, RestsByHistory}
 use Rattle.history.proofs.Cases.{never}
 
 abbrev page : {F : Type 0} → Call → Result Answer (Refusal F) → Page F
@@ -63,5 +63,5 @@ module _ {F : Type 0} (m : Meaning F) (K : ℕ) where
         λ k. later.1 (elim k.0 [ inl x ↦ inl (same.0 x) | inr (inl b) ↦ absurd (e b) | inr (inr s) ↦ inr s ], k.1.1),
       )
 
-pub rests_by_history : {F : Type 0} (m : Meaning F) → Always m (λ K σ h. (σ.phase ≡ resting) ↔ EachEnded h)
+pub rests_by_history : {F : Type 0} (m : Meaning F) → RestsByHistory m
 rests_by_history m K k σ h run = let (to, from) = run_rests m K run in (λ r. (to r).1, λ r. from (inl refl, r))

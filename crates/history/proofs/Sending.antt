@@ -15,7 +15,7 @@ use Rattle.history.specs.Calls.{Call, Show, Answer, Page}
 use Rattle.history.specs.Rules
 use Rattle.history.specs.Rules.{State, resting, claiming, showing, Draft, Marks, put, laid, side_of, with_phase, written, over, Effect, refuses, accepts, Run, rest, turn}
 use Rattle.history.specs.Certificate.{Certificate, Pair, among, Distinct, Lists, claim_of, show_of, draft_calls, Positive, Sent, all_0, some_above}
-use Rattle.history.specs.Promises.{calls, EachAccepted, Settles, Enters, TakesCertificates, Always}
+use Rattle.history.specs.Promises.{calls, EachAccepted, Settles, Enters, CertificateEnters}
 use Rattle.history.proofs.Cases.{never, absurd_bool, absurd_option, at_put, cases_result, short_reaches, weaker_refl}
 use Rattle.history.proofs.Peak.{supported_bounding, below}
 use Rattle.history.proofs.Sound.{Sound, always_sound, Fits, answer_strongest, fault_unshown}
@@ -256,5 +256,5 @@ module _ {F : Type 0} (m : Meaning F) (lawful : Lawful m) (K : ℕ) (k : InRange
   sent_enters quiet (some_above ps qs us vs s t lp lq lu lv one) =
       enters_by m K cert σ _ _ (then m K (first_goes ps qs lp lq quiet) (second_goes ps qs lp lq us vs lu lv s t one)) (last_settles ps qs lp lq us vs lu lv)
 
-pub certificate_enters : {F : Type 0} (m : Meaning F) → Lawful m → Always m (λ K σ h. TakesCertificates m K σ)
+pub certificate_enters : {F : Type 0} (m : Meaning F) → Lawful m → CertificateEnters m
 certificate_enters m lawful K k σ h run quiet cert cs sent = sent_enters m lawful K k cert σ (always_sound m lawful K k σ h run) quiet sent

@@ -17,7 +17,7 @@ use Rattle.history.specs.Calls.{Call, Show, Enter, Answer, Page}
 use Rattle.history.specs.Rules
 use Rattle.history.specs.Rules.{State, Phase, resting, claiming, showing, Draft, Marks, laid, side_of, with_phase, written, over, Outside, Unfit, Ground, Effect, Step, refuses, accepts, Run, rest, turn, fresh, weighed_in}
 use Rattle.history.specs.Bounding.{Bounding}
-use Rattle.history.specs.Promises.{Below, Always}
+use Rattle.history.specs.Promises.{Below, UpperSupported, LowerBounded, LowerTrue}
 use Rattle.history.proofs.Cases.{absurd_bool, absurd_option, at_put, at_laid, cases_result, strong, reaches, weaker_refl}
 use Rattle.history.proofs.Peak.{supported_bounding, below}
 
@@ -106,7 +106,7 @@ module _ {F : Type 0} (m : Meaning F) (lawful : Lawful m) (K : ℕ) where
   shown_now : (σ : State) (e : Side) (d : Draft) (b : Marks) (s t : ℕ) (ws : List ℤ) (v : ℕ) → ((q : Refusal F) → Ground m K σ (Show s t ws) q → ⊥)
       → σ.phase ≡ showing e d b → d s t ≡ Some v → Shown m e (weighed_in m K e d σ) s t ws v
   shown_now σ e d b s t ws v ok ph is = elim (cases_result (m.weigh e (weighed_in m K e d σ) s t ws)) [
-    | inl (c, w) ↦ lawful.closed e _ s t ws c v (answer_shown m lawful e _ s t ws c w) (reaches e c v (λ short. ok (Bound e c) (Rules.show_55 e d b v c ph is w short)))
+    | inl (c, w) ↦ lawful.closed e _ s t ws c v (answer_shown m lawful e _ s t ws c w) (reaches e c v (λ short. ok (Bound c) (Rules.show_55 e d b v c ph is w short)))
     | inr (f, w) ↦ absurd (ok (Fault f) (Rules.show_54 e d b f ph w))
   ]
 
@@ -199,11 +199,11 @@ module _ {F : Type 0} (m : Meaning F) (lawful : Lawful m) (K : ℕ) where
   always_sound k σ h run = run_sound run (fresh_sound k)
 
 module _ {F : Type 0} (m : Meaning F) (lawful : Lawful m) where
-  pub upper_supported : Always m (λ K σ h. Supported m (over K σ.upper))
+  pub upper_supported : UpperSupported m
   upper_supported K k σ h run = (always_sound m lawful K k σ h run).upper
 
-  pub lower_bounded : Always m (λ K σ h. (e : Distances) → Bounding m e → Below m.sections (over K σ.lower) e)
+  pub lower_bounded : LowerBounded m
   lower_bounded K k σ h run = (always_sound m lawful K k σ h run).lower
 
-  pub lower_true : Always m (λ K σ h. (e : Distances) → Supported m e → Below m.sections (over K σ.lower) e)
+  pub lower_true : LowerTrue m
   lower_true K k σ h run e sup = lower_bounded K k σ h run e (supported_bounding m lawful e sup)

@@ -1,5 +1,4 @@
 pub mod Refusals
-pub mod Lines
 pub mod Calls
 pub mod Rules
 pub mod Bounding

@@ -1,4 +1,4 @@
--- What holds of every register, over all histories of calls.
+-- What holds of every register, over all histories.
 use Rattle.std.specs.Prelude.{◌≡◌, ℕ, ◌*◌, ◌<◌, ◌≤◌, ◌⊎◌, ◌↔◌, List, [], ◌∷◌, map, Ok, Result}
 use Rattle.chart.specs.declared.side.Side.{Side}
 use Rattle.chart.specs.Distances.{Distances}
@@ -13,7 +13,45 @@ use Rattle.history.specs.Rules.{State, resting, over, Step, Run, fresh}
 use Rattle.history.specs.Bounding.{Bounding}
 use Rattle.history.specs.Certificate.{Certificate, Sent}
 
--- the calls of a history
+-- in every state that a history leads to from a fresh register, over any top
+abbrev pub Always : {F : Type 0} → Meaning F → (ℕ → State → List (Page F) → Type 0) → Type 0
+Always {F} m P = (K : ℕ) → InRange K → (σ : State) (h : List (Page F)) → Run m K (fresh m K) h σ → P K σ h
+
+-- no entry of l stands for a greater distance than that of e
+abbrev pub Below : ℕ → Distances → Distances → Type 0
+Below n l e = (s t : ℕ) → s < n → t < n → l.entry s t * e.top ≤ e.entry s t * l.top
+
+-- ---- one call
+
+-- the call has an outcome and a state after it, and no other
+abbrev pub OneOutcome : {F : Type 0} → Meaning F → ℕ → State → Call → Type 0
+OneOutcome {F} m K σ c =
+    (o : Result Answer (Refusal F)) × (τ : State) × Step m K σ c o τ × ((o' : Result Answer (Refusal F)) (τ' : State) → Step m K σ c o' τ' → (o ≡ o') × (τ ≡ τ'))
+
+abbrev pub EachCallHasOneOutcome : {F : Type 0} → Meaning F → ℕ → Type 0
+EachCallHasOneOutcome m K = (σ : State) (c : Call) → OneOutcome m K σ c
+
+-- ---- the entries
+
+-- the upper table is supported
+abbrev pub UpperSupported : {F : Type 0} → Meaning F → Type 0
+UpperSupported m = Always m (λ K σ h. Supported m (over K σ.upper))
+
+-- no lower entry is above that of a table that bounds what potentials show, over whatever top
+abbrev pub LowerBounded : {F : Type 0} → Meaning F → Type 0
+LowerBounded m = Always m (λ K σ h. (e : Distances) → Bounding m e → Below m.sections (over K σ.lower) e)
+
+-- nor above that of a supported table
+abbrev pub LowerTrue : {F : Type 0} → Meaning F → Type 0
+LowerTrue m = Always m (λ K σ h. (e : Distances) → Supported m e → Below m.sections (over K σ.lower) e)
+
+-- what is settled in two registers of the same chart is the same distance, whatever the tops and the histories
+abbrev pub SettledAgree : {F G : Type 0} → Meaning F → Meaning G → Type 0
+SettledAgree m o = Same m o → Always m (λ K σ h. Always o (λ J τ g.
+    (s t : ℕ) → Judged m s t → σ.lower s t ≡ σ.upper s t → τ.lower s t ≡ τ.upper s t → σ.upper s t * J ≡ τ.upper s t * K))
+
+-- ---- full certificates
+
 abbrev pub calls : {F : Type 0} → List (Page F) → List Call
 calls h = map (λ p. p.call) h
 
@@ -24,25 +62,6 @@ Accepted p = (a : Answer) × (p.outcome ≡ Ok a)
 abbrev pub EachAccepted : {F : Type 0} → List (Page F) → Type 0
 EachAccepted [] = Unit {0}
 EachAccepted (p ∷ h) = Accepted p × EachAccepted h
-
--- ---- the rules fix everything
-
--- the call has an outcome and a state after it, and no other
-abbrev pub OneOutcome : {F : Type 0} → Meaning F → ℕ → State → Call → Type 0
-OneOutcome {F} m K σ c =
-    (o : Result Answer (Refusal F)) × (τ : State) × Step m K σ c o τ × ((o' : Result Answer (Refusal F)) (τ' : State) → Step m K σ c o' τ' → (o ≡ o') × (τ ≡ τ'))
-
--- whatever history of the same calls a register of the chart and the top has, its answers, its refusals and the state after it are these
-abbrev pub ByCallsAlone : {F : Type 0} → Meaning F → ℕ → State → List (Page F) → Type 0
-ByCallsAlone {F} m K σ h = (g : List (Page F)) (τ : State) → Run m K (fresh m K) g τ → calls g ≡ calls h → (g ≡ h) × (τ ≡ σ)
-
--- ---- the entries
-
--- no entry of l stands for a greater distance than that of e
-abbrev pub Below : ℕ → Distances → Distances → Type 0
-Below n l e = (s t : ℕ) → s < n → t < n → l.entry s t * e.top ≤ e.entry s t * l.top
-
--- ---- full certificates
 
 module _ {F : Type 0} (m : Meaning F) (K : ℕ) where
   -- at every judged pair, ask answers the certificate's entry twice, and Settled
@@ -60,6 +79,9 @@ module _ {F : Type 0} (m : Meaning F) (K : ℕ) where
   -- at rest, every full certificate can be sent, and is settled then
   abbrev pub TakesCertificates : State → Type 0
   TakesCertificates σ = σ.phase ≡ resting → (cert : Certificate m K) (cs : List Call) → Sent m K cert cs → Enters cert σ cs
+
+abbrev pub CertificateEnters : {F : Type 0} → Meaning F → Type 0
+CertificateEnters m = Always m (λ K σ h. TakesCertificates m K σ)
 
 -- ---- rest
 
@@ -83,33 +105,21 @@ abbrev pub EachEnded : {F : Type 0} → List (Page F) → Type 0
 EachEnded [] = Unit {0}
 EachEnded (p ∷ h) = (Opens p → SomeEnds h) × EachEnded h
 
+-- the history tells whether a register rests
+abbrev pub RestsByHistory : {F : Type 0} → Meaning F → Type 0
+RestsByHistory m = Always m (λ K σ h. (σ.phase ≡ resting) ↔ EachEnded h)
+
 -- ---- one register
 
 -- what a register of the chart m over the top K promises, in the state σ that the history h led to
 pub record Promise {F : Type 0} (m : Meaning F) (K : ℕ) (σ : State) (h : List (Page F)) : Type 0 where
-  pub alone : ByCallsAlone m K σ h
-  pub outcome : (c : Call) → OneOutcome m K σ c
-  -- the upper table is supported
   pub upper : Supported m (over K σ.upper)
-  -- no lower entry is above that of a supported table, over whatever top
   pub lower : (e : Distances) → Supported m e → Below m.sections (over K σ.lower) e
-  -- nor above that of any table that bounds what potentials show
   pub bounded : (e : Distances) → Bounding m e → Below m.sections (over K σ.lower) e
-  pub certificates : TakesCertificates m K σ
-  -- the history tells whether it rests
   pub rests : (σ.phase ≡ resting) ↔ EachEnded h
+  pub certificates : TakesCertificates m K σ
+  pub outcome : (c : Call) → OneOutcome m K σ c
 
 -- it keeps the promise, whatever history led to the state
 abbrev pub Keeps : {F : Type 0} → Meaning F → ℕ → State → Type 0
 Keeps {F} m K σ = (h : List (Page F)) → Run m K (fresh m K) h σ → Promise m K σ h
-
--- ---- two registers
-
--- in every state that a history leads to from a fresh register, over any top
-abbrev pub Always : {F : Type 0} → Meaning F → (ℕ → State → List (Page F) → Type 0) → Type 0
-Always {F} m P = (K : ℕ) → InRange K → (σ : State) (h : List (Page F)) → Run m K (fresh m K) h σ → P K σ h
-
--- what is settled in two registers of the same chart is the same distance, whatever the tops and the histories
-abbrev pub SettledAgree : {F G : Type 0} → Meaning F → Meaning G → Type 0
-SettledAgree m o = Same m o → Always m (λ K σ h. Always o (λ J τ g.
-    (s t : ℕ) → Judged m s t → σ.lower s t ≡ σ.upper s t → τ.lower s t ≡ τ.upper s t → σ.upper s t * J ≡ τ.upper s t * K))

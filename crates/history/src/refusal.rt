@@ -1,12 +1,6 @@
-ghost use Rattle.std.specs.Prelude.{◌≡◌, ◌++◌, Some, decimal};
-ghost use Rattle.std.specs.Fmt.{DisplaysOnOk};
+ghost use Rattle.std.specs.Prelude.{◌≡◌};
 ghost use Rattle.history.specs.declared.refusal.Refusal.TheVariants.{Fault};
-ghost use Rattle.history.specs.Lines.{line, reason, limit_of};
-ghost use Rattle.history.specs.Refusals.{number as number_of};
-
-use chart::side::Side;
-use std::fmt;
-use std::fmt::Display;
+ghost use Rattle.history.specs.Refusals.{number};
 
 /// Why a call is refused.
 #[derive(Drop, Debug)]
@@ -37,8 +31,8 @@ pub enum Refusal<F> {
     ShownAlready,
     /// Show: the showing is not valid, for this fault.
     Fault(F),
-    /// Show: the showing is valid, and its strongest claim on this side is this bound, which does not reach the pair's claim.
-    Bound(Side, u32),
+    /// Show: the showing is valid, and its strongest claim is this bound, which does not reach the pair's claim.
+    Bound(u32),
     /// Enter: no draft takes showings.
     EnterNotShowing,
     /// Enter: the claim of this pair, the first such by its first section and then its second, is not shown.
@@ -60,7 +54,7 @@ impl<F> From<F> for Refusal<F> {
 impl<F> Refusal<F> {
     /// The number of the refusal. The checks of a call are made by ascending numbers.
     pub fn number(&self) -> u16
-        ensures { result ≡ number_of self.now }
+        ensures { result ≡ number self.now }
     {
         match self {
             Refusal::NotResting => 20,
@@ -76,66 +70,11 @@ impl<F> Refusal<F> {
             Refusal::NoClaim => 52,
             Refusal::ShownAlready => 53,
             Refusal::Fault(_) => 54,
-            Refusal::Bound(_, _) => 55,
+            Refusal::Bound(_) => 55,
             Refusal::EnterNotShowing => 60,
             Refusal::Unshown(_, _) => 61,
             Refusal::Resting => 70,
             Refusal::AskOutside => 80,
         }
-    }
-}
-
-impl<F: Display> fmt::Display for Refusal<F> {
-    ghost output = { λ r. line F.Display.output r };
-
-    fn fmt<W: fmt::Write>(&self, f: &mut fmt::Formatter<W>) -> fmt::Result {
-        let number = self.number();
-        match self {
-            Refusal::NotResting => explain(f, number, "a draft is open"),
-            Refusal::NotClaiming => explain(f, number, "no draft takes claims"),
-            Refusal::ClaimOutside => explain(f, number, "the chart has not both sections"),
-            Refusal::ClaimApart => explain(f, number, "the pair is apart"),
-            Refusal::ClaimedTwice => explain(f, number, "the draft has a claim for the pair"),
-            Refusal::ClaimValue => explain(
-                f,
-                number,
-                "the value is looser than the entry, or above the top",
-            ),
-            Refusal::CloseNotClaiming => explain(f, number, "no draft takes claims"),
-            Refusal::NoClaims => explain(f, number, "the draft has no claims"),
-            Refusal::NotShowing => explain(f, number, "no draft takes showings"),
-            Refusal::ShowOutside => explain(f, number, "the chart has not both sections"),
-            Refusal::NoClaim => explain(f, number, "the draft has no claim for the pair"),
-            Refusal::ShownAlready => explain(f, number, "the claim is shown already"),
-            Refusal::Fault(fault) => write!(f, "{number} {fault}"),
-            Refusal::Bound(side, c) => {
-                let limit = limit(*side);
-                write!(f, "{number} {c} ({limit} {c})")
-            }
-            Refusal::EnterNotShowing => explain(f, number, "no draft takes showings"),
-            Refusal::Unshown(s, t) => write!(
-                f,
-                "{number} {s} {t} (the claim for sections {s} and {t} is not shown)"
-            ),
-            Refusal::Resting => explain(f, number, "no draft is open"),
-            Refusal::AskOutside => explain(f, number, "the chart has not both sections"),
-        }
-    }
-}
-
-/// Writes a number and what is wrong, in words.
-fn explain<W: fmt::Write>(f: &mut fmt::Formatter<W>, number: u16, words: &str) -> fmt::Result
-    ensures { DisplaysOnOk W.Write.write_str_gives f.old result (Some (decimal number ++ reason words.now)) f.new }
-{
-    write!(f, "{number} ({words})")
-}
-
-/// What a bound of this side says of the showing.
-fn limit(side: Side) -> &'static str
-    ensures { result.now ≡ limit_of side }
-{
-    match side {
-        Side::Upper => "the pairing shows no claim below",
-        Side::Lower => "the potentials show no claim above",
     }
 }

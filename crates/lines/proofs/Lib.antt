@@ -1,3 +1,4 @@
-pub mod Comments
-pub mod Tails
+pub mod Cuts
+pub mod Values
 pub mod Words
+pub mod Weighings

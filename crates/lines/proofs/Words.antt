@@ -2,7 +2,7 @@
 use Rattle.std.proofs.Common.{◌≡◌, ℕ, ◌+◌, List, [], ◌∷◌, ◌++◌, ℤ, Some, None, Ok, Err, Result, sym, refl, ap, ◌∙◌, append_assoc, append-nil}
 use Rattle.lines.specs.declared.malformed.Malformed.{Malformed}
 use Rattle.lines.specs.declared.malformed.Malformed.TheVariants.{NotAWord}
-use Rattle.fields.specs.Numerals.{word_of}
+use Rattle.lines.specs.Numerals.{word_of}
 use Rattle.lines.specs.Reading.{◌then◌, words_from}
 
 -- the words that were read, and then those that are left to read

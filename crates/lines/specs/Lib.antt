@@ -1,4 +1,4 @@
-pub mod Names
-pub mod Parts
+pub mod Fields
+pub mod Numerals
 pub mod Reading
 pub mod Texts

@@ -1,18 +1,15 @@
 -- What a line asks for, or what is wrong with it.
-use Rattle.std.specs.Prelude.{◌≡◌, ℕ, ◌+◌, ◌≤◌, Bool, true, false, cond, List, [], ◌∷◌, length, ℤ, Some, None, Ok, Err, codes, Option, Result, ◌==◌, slice_index}
+use Rattle.std.specs.Prelude.{ℕ, ◌+◌, Bool, false, cond, List, [], ◌∷◌, drop, ℤ, Some, None, Ok, Err, codes, Option, Result, ◌==◌, slice_index}
 use Rattle.std.specs.Option.{ok_or}
 use Rattle.std.specs.Str.{bytes_eq}
 use Rattle.chart.specs.declared.side.Side.{Side}
 use Rattle.chart.specs.declared.side.Side.TheVariants.{Upper, Lower}
-use Rattle.fields.specs.Fields.{fields}
-use Rattle.fields.specs.Numerals.{number_of, word_of}
 use Rattle.lines.specs.declared.command.Command.{Command}
-use Rattle.lines.specs.declared.command.Command.TheVariants.{Open, Claim, Close, Show, Enter, Abandon, Ask, Weigh}
+use Rattle.lines.specs.declared.command.Command.TheVariants.{Weigh}
 use Rattle.lines.specs.declared.malformed.Malformed.{Malformed}
-use Rattle.lines.specs.declared.malformed.Malformed.TheVariants.{UnknownCommand, TooFewFields, TooManyFields, NotASide, NotANumber, NotAWord}
-use Rattle.lines.specs.declared.name.Name.{Name}
-use Rattle.lines.specs.declared.name.Name.TheVariants as name
-use Rattle.lines.specs.Names.{name_of}
+use Rattle.lines.specs.declared.malformed.Malformed.TheVariants.{UnknownCommand, TooFewFields, NotASide, NotANumber, NotAWord}
+use Rattle.lines.specs.Fields.{fields}
+use Rattle.lines.specs.Numerals.{number_of, word_of}
 
 -- the first error of two readings, or what the second makes of the first
 infixr 1 ◌then◌
@@ -23,65 +20,44 @@ abbrev pub ◌then◌ : {X Y : Type 0} → Result X Malformed → (X → Result 
 abbrev pub side_of : List ℕ → Option Side
 side_of f = cond (bytes_eq f (codes "upper")) (Some Upper) (cond (bytes_eq f (codes "lower")) (Some Lower) None)
 
--- what fields ask for: a command with its words
-abbrev pub Reading : Type 0
-Reading = List (List ℕ) → Result (Command × List ℤ) Malformed
+-- what the first of the fields says, as `says` reads it
+abbrev pub first : {X : Type 0} → (List ℕ → Option X) → Malformed → List (List ℕ) → Result X Malformed
+first says wrong [] = Err TooFewFields
+first says wrong (f ∷ fs) = ok_or (says f) wrong
 
--- a field, as `says` reads it, and then other fields
-abbrev pub a_field : {X : Type 0} → (List ℕ → Option X) → Malformed → (X → Reading) → Reading
-a_field says wrong next [] = Err TooFewFields
-a_field says wrong next (f ∷ fs) = ok_or (says f) wrong then λ x. next x fs
-
--- field k, a side or a number
-abbrev pub a_side : ℕ → (Side → Reading) → Reading
-a_side k = a_field side_of (NotASide k)
-
-abbrev pub a_number : ℕ → (ℕ → Reading) → Reading
-a_number k = a_field number_of (NotANumber k)
-
--- fields k and k + 1, two sections
-abbrev pub two_sections : ℕ → (ℕ → ℕ → Reading) → Reading
-two_sections k next = a_number k λ s. a_number (k + 1) λ t. next s t
-
--- the command has no more fields
-abbrev pub no_more : Command → Reading
-no_more c [] = Ok (c, [])
-no_more c (f ∷ fs) = Err TooManyFields
+-- what field k says
+abbrev pub field_says : {X : Type 0} → ℕ → (List ℕ → Option X) → (ℕ → Malformed) → List (List ℕ) → Result X Malformed
+field_says k says wrong fs = first says (wrong k) (drop k fs)
 
 -- the words that the fields write; k is the number of the first
 unfoldable pub words_from : ℕ → List (List ℕ) → Result (List ℤ) Malformed
 words_from k [] = Ok []
 words_from k (f ∷ fs) = ok_or (word_of f) (NotAWord k) then λ w. words_from (k + 1) fs then λ ws. Ok (w ∷ ws)
 
--- each other field of the command is a word
-abbrev pub all_words : Command → Reading
-all_words c fs = words_from 0 fs then λ ws. Ok (c, ws)
+-- the words of a weighing
+abbrev pub weigh_words : List (List ℕ) → Result (List ℤ) Malformed
+weigh_words fs = words_from 0 (drop 4 fs)
 
--- the fields that follow the name of a command
-abbrev pub command_read : Name → Reading
-command_read name.Open = a_side 1 λ x. no_more (Open x)
-command_read name.Claim = two_sections 1 λ s t. a_number 3 λ v. no_more (Claim s t v)
-command_read name.Close = no_more Close
-command_read name.Show = two_sections 1 λ s t. all_words (Show s t)
-command_read name.Enter = no_more Enter
-command_read name.Abandon = no_more Abandon
-command_read name.Ask = two_sections 1 λ s t. no_more (Ask s t)
-command_read name.Weigh = a_side 1 λ x. two_sections 2 λ s t. all_words (Weigh x s t)
+-- a weighing: the command, a side, two sections and words
+abbrev pub weigh_read : List (List ℕ) → Result (Option Command) Malformed
+weigh_read fs =
+    field_says 1 side_of NotASide fs then λ side.
+    field_says 2 number_of NotANumber fs then λ s.
+    field_says 3 number_of NotANumber fs then λ t.
+    weigh_words fs then λ ws. Ok (Some (Weigh side s t))
 
 -- whether a line whose first field is this one is passed over: it begins with #
 abbrev pub comment : List ℕ → Bool
 comment f = slice_index f 0 == 35
 
-abbrev pub fields_read : List (List ℕ) → Result (Option (Command × List ℤ)) Malformed
+abbrev pub fields_read : List (List ℕ) → Result (Option Command) Malformed
 fields_read [] = Ok None
-fields_read (f ∷ fs) = cond (comment f) (Ok None) (ok_or (name_of f) UnknownCommand then λ n. command_read n fs then λ c. Ok (Some c))
+fields_read (f ∷ fs) = cond (comment f) (Ok None) (cond (bytes_eq f (codes "weigh")) (weigh_read (f ∷ fs)) (Err UnknownCommand))
 
 -- nothing for a line that is passed over; of several things that are wrong, the first in the line
-abbrev pub line_read : List ℕ → Result (Option (Command × List ℤ)) Malformed
+abbrev pub line_read : List ℕ → Result (Option Command) Malformed
 line_read bs = fields_read (fields bs)
 
--- an answer of the reader, with the words that it leaves
-abbrev pub with_words : Result (Option Command) Malformed → List ℤ → Result (Option (Command × List ℤ)) Malformed
-with_words (Ok None) ws = Ok None
-with_words (Ok (Some c)) ws = Ok (Some (c, ws))
-with_words (Err e) ws = Err e
+-- the words of a line that asks for a weighing
+abbrev pub line_words : List ℕ → Result (List ℤ) Malformed
+line_words bs = weigh_words (fields bs)

@@ -1,8 +1,13 @@
-//! Reads one line of the program's input: a call of the register, `ask`, or a showing to be weighed.
+//! Reads one line of the program's input: `weigh upper|lower S T WORDS..`.
 //!
-//! The fields are those of the crate `fields`. A line that has no field, or whose first field begins with `#`, is passed over.
-//! Else the first field is the name of a command, and the command's own fields follow it.
+//! A field is a longest run of bytes that are no blanks; space, tab and carriage return are blanks. A line that has no field,
+//! or whose first field begins with `#`, is passed over. `S` and `T` are decimal numerals, digits only, of numbers below 2^32.
+//! A word is a decimal numeral of a signed 32-bit number, with a minus in front or none. A numeral may begin with zeros.
+
+#![tactic(auto)]
+
 pub mod command;
+mod fields;
 pub mod line;
 pub mod malformed;
-mod name;
+pub mod numerals;

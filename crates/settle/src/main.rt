@@ -1,7 +1,10 @@
 //! `settle CHART TOP < LINES`: weighs showings against a chart, as the lines of the input ask.
+
+#![tactic(auto)]
+
 ghost use Rattle.std.specs.Prelude.{◌≡◌, ℕ, Some, MatchResult};
 ghost use Rattle.chart.specs.Tops.{InRange};
-ghost use Rattle.fields.specs.Numerals.{number_of};
+ghost use Rattle.lines.specs.Numerals.{number_of};
 
 mod failure;
 mod session;
@@ -9,7 +12,7 @@ mod tables;
 
 use chart::top::{Top, TopRefusal};
 use failure::Failure;
-use fields::numerals::read_number;
+use lines::numerals::read_number;
 use session::settle_lines;
 use std::fs::File;
 use std::io::{BufReader, BufWriter, Read, Write};

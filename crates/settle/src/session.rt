@@ -4,7 +4,6 @@ use chart::kind::Chart;
 use chart::top::Top;
 use lines::command::Command;
 use lines::line::read_line;
-use lines::malformed::Malformed;
 use std::alloc::Global;
 use std::fmt::Display;
 use std::io;
@@ -30,12 +29,7 @@ where
         }
         match read_line(line.as_slice(), &mut words) {
             Ok(None) => {}
-            Ok(Some(command)) => {
-                let Some(result) = weigh(chart, &tables, command, words.as_slice()) else {
-                    return Err(Failure::Line(number, Malformed::UnknownCommand));
-                };
-                print(command, result, out)?;
-            }
+            Ok(Some(command)) => answer(chart, &tables, command, words.as_slice(), out)?,
             Err(wrong) => return Err(Failure::Line(number, wrong)),
         }
     }
@@ -54,27 +48,21 @@ fn next_line<R: BufRead>(input: &mut R, line: &mut Vec<u8>) -> io::Result<bool> 
     Ok(true)
 }
 
-/// Weighs the showing of a line that asks for that; the program takes no other lines.
-fn weigh<C: Chart>(
+/// Does what a line asks, and writes the answer.
+fn answer<C: Chart, W: Write>(
     chart: &C,
     tables: &Tables,
     command: Command,
     words: &[i32],
-) -> Option<Result<u32, C::Fault>> {
-    match command {
-        Command::Weigh { side, s, t } => Some(tables.weigh(chart, side, s, t, words)),
-        _ => None,
-    }
-}
-
-/// Writes what a weighing answers.
-fn print<F: Display + Drop, W: Write>(
-    command: Command,
-    res: Result<u32, F>,
     out: &mut W,
-) -> io::Result<()> {
-    match res {
-        Ok(claim) => writeln!(out, "{command} = {claim}"),
-        Err(fault) => writeln!(out, "{command} fault {fault}"),
+) -> io::Result<()>
+where
+    C::Fault: Display + Drop,
+{
+    match command {
+        Command::Weigh { side, s, t } => match tables.weigh(chart, side, s, t, words) {
+            Ok(claim) => writeln!(out, "{command} = {claim}"),
+            Err(fault) => writeln!(out, "{command} fault {fault}"),
+        },
     }
 }

@@ -1,5 +1,5 @@
 use Rattle.std.proofs.Common.{sym, true-eqb}
-use Rattle.lines.proofs.Comments.{no_comment}
+use Rattle.lines.proofs.Weighings.{no_comment}
 use Rattle.lines.proofs.line.is_comment.Goals as goal
 
 pub returns-then-is-empty : goal.returns-then-is-empty

@@ -1,7 +1,7 @@
 use Rattle.std.proofs.Common.{◌≡◌, ◌+◌, [], ◌∷◌, ◌++◌, length, Err, vec_items, vec_len, sym, ap, ◌∙◌, inr, arith, w32, SFits, rules}
 use Rattle.std.proofs.lemmas.Int.{to_z-of_z}
 use Rattle.lines.specs.declared.malformed.Malformed.TheVariants.{NotAWord}
-use Rattle.fields.specs.Fields.{fields}
+use Rattle.lines.specs.Fields.{fields}
 use Rattle.lines.specs.Reading.{words_from}
 use Rattle.lines.proofs.Words.{onto, words_more, words_wrong, words_all}
 use Rattle.lines.proofs.line.read_words.Goals as goal

@@ -1,5 +1,5 @@
 use Rattle.std.proofs.Common.{◌≡◌, ◌+◌, ◌≤◌, length, vec_items, vec_len, vec_capacity}
-use Rattle.fields.specs.Fields.{fields}
+use Rattle.lines.specs.Fields.{fields}
 use Rattle.lines.specs.Reading.{words_from}
 use Rattle.lines.proofs.Words.{onto}
 use Rattle.lines.proofs.line.read_words.Given as goal

@@ -4,12 +4,11 @@ use Rattle.chart.specs.Distances.{Distances}
 use Rattle.chart.proofs.Overlays.{overlaid_bounded, overlaid_cells}
 use Rattle.chart.proofs.table.Table.overlaid.Goals as goal
 
-pub invariant-of-result : goal.invariant-of-result
-invariant-of-result c = (
-  overlaid_bounded c.args.self.now c.args.values.now c.loop-i.cells c.loop-i.invariant.0
-      (λ k l. c.loop-i.invariant.1 k (omega arith)),
-  tt,
-)
+pub invariant_of-result : goal.invariant_of-result
+invariant_of-result c = record {
+  bounded = overlaid_bounded c.args.self.now c.args.values.now c.loop-i.cells c.loop-i.invariant.0
+      (λ k l. c.loop-i.invariant.1 k (omega arith));
+}
 
 pub returns : goal.returns
 returns c =

@@ -1,15 +1,14 @@
-use Rattle.std.proofs.Common.{◌≡◌, ℕ, ◌≤◌, ap, arith, rules}
+use Rattle.std.proofs.Common.{ℕ, ap, arith}
 use mathlib.Core.Path.{fun_ext}
 use Rattle.chart.specs.Distances.{Distances}
 use Rattle.chart.proofs.Starts.{cells_bounded, cells_start}
 use Rattle.chart.proofs.table.Table.starting.Goals as goal
 
-pub invariant-of-result : goal.invariant-of-result
-invariant-of-result g c = (
-  cells_bounded (g.C.Chart.meaning c.args.chart.now) (g.met.C.Chart.lawful c.args.chart.now).sections_most c.args.side c.args.top.value c.loop-i.cells c.loop-i.invariant.0
-      (λ k l. c.loop-i.invariant.1 k (omega arith)),
-  tt,
-)
+pub invariant_of-result : goal.invariant_of-result
+invariant_of-result g c = record {
+  bounded = cells_bounded (g.C.Chart.meaning c.args.chart.now) (g.met.C.Chart.lawful c.args.chart.now).sections_most c.args.side c.args.top.value c.loop-i.cells c.loop-i.invariant.0
+      (λ k l. c.loop-i.invariant.1 k (omega arith));
+}
 
 pub returns : goal.returns
 returns g c =

@@ -9,8 +9,8 @@ returns-in-Some c = record {
   chart = refl;
 }
 
-pub invariant-of-self : goal.invariant-of-self
-invariant-of-self c =
+pub invariant_of-self : goal.invariant_of-self
+invariant_of-self c =
     let f = c.in-ok-header.ensures.fits in
     let w = weighted_whole _ _ f in (
       f.some_sections,

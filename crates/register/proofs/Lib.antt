@@ -1,5 +1,0 @@
-pub mod States
-pub mod Values
-pub mod Steps
-pub mod Idle
-pub mod Playing

@@ -1,5 +1,0 @@
-pub mod Tables
-pub mod Phases
-pub mod Calls
-pub mod Held
-pub mod Settling

@@ -1,3 +1,0 @@
-//! The commands of a script, played against a register: what each comes to, and how many calls are accepted and refused.
-pub mod outcome;
-pub mod play;
