@@ -1,5 +1,5 @@
 -- The least claim that a pairing shows, and the greatest that potentials show.
-use Rattle.std.proofs.Common.{◌≡◌, ℕ, suc, ◌+◌, ◌-◌, ◌*◌, ◌/◌, ◌<◌, ◌≤◌, ◌⊎◌, ℤ, pos, negsuc, ◌*ℤ◌, ◌≤ℤ◌, ap, inl, inr, ⊎_elim, suc-mul, mul_comm, mul-le-mul_left, mul-zero, zero-mul, arith}
+use Rattle.std.proofs.Common.{◌≡◌, ℕ, suc, ◌+◌, ◌-◌, ◌*◌, ◌/◌, ◌<◌, ◌≤◌, ◌⊎◌, ℤ, pos, negsuc, ◌*ℤ◌, ◌≤ℤ◌, ap, inl, inr, ⊎_elim, suc-mul, mul_comm, mul-zero, zero-mul, arith}
 use native.Mathlib.Nat.{mul-div-le, zero-div, div-add-mod}
 use borrow.Author.Differences.{up, down, le_out, at_most_in, product_is}
 use Rattle.std.proofs.lemmas.Nat.{le-div, div_below, mod_below}

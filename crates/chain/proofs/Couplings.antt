@@ -1,14 +1,14 @@
 -- Couplings: a pairing spells one, two rows have a product, and each bounds what potentials show.
-use Rattle.std.proofs.Common.{◌≡◌, ℕ, zero, suc, ◌+◌, ◌*◌, ◌<◌, ◌≤◌, Bool, true, false, cond, eqb, ◌⊎◌, List, ℤ, pos, ◌+ℤ◌, ◌*ℤ◌, sym, refl, ap, ◌∙◌, ⊎_elim, le_refl, mul_assoc, mul_comm, mul-le-mul, mul-le-mul_left, mul-pos, one-mul, mul-zero, zero-mul, mul-one, mul-add, mul_left_comm, arith}
+use Rattle.std.proofs.Common.{◌≡◌, ℕ, ◌+◌, ◌*◌, ◌<◌, ◌≤◌, Bool, true, false, cond, eqb, List, ℤ, pos, ◌+ℤ◌, ◌*ℤ◌, sym, refl, ap, ◌∙◌, ⊎_elim, le_refl, mul_assoc, mul_comm, mul-le-mul_left, mul-pos, one-mul, mul-zero, zero-mul, mul-add, mul_left_comm, arith}
 use native.Mathlib.Nat.{le_of_mul-le-mul_left}
 use borrow.Author.Differences.{up, down, sum_is_lem, product_is, le_out}
-use Rattle.std.proofs.lemmas.Bool.{cases_eq, cases_lt, cond-true, cond-false, eq-eqb, ne_eqb}
+use Rattle.std.proofs.lemmas.Bool.{cases_eq, cases_lt, cond-false, ne_eqb}
 use Rattle.finite.specs.Sums.{sum, sumℤ}
-use Rattle.finite.proofs.Sums.{sum_same, sum_le, sum_add, sum_mul, sum_mul_right, sum_swap, sum_places, sum_none, term_le_sum, sumℤ_parts}
+use Rattle.finite.proofs.Sums.{sum_same, sum_le, sum_add, sum_mul, sum_mul_right, sum_swap, sum_places, term_le_sum, sumℤ_parts}
 use Rattle.chart.specs.Distances.{Distances}
 use Rattle.chart.specs.Laws.{Within}
-use Rattle.chain.specs.Chain.{Chain, Sound, Judges}
-use Rattle.chain.specs.Pairing.{left, right, amount, triples, margin, cost, Pairing, PairingShows}
+use Rattle.chain.specs.Chain.{Chain, Sound}
+use Rattle.chain.specs.Pairing.{left, right, amount, triples, cost, Pairing, PairingShows}
 use Rattle.chain.specs.Potentials.{alpha, beta, gain, Potentials, PotentialsShow}
 use Rattle.chain.specs.Coupling.{Coupling, total, MeanAtMost, CouplingsBoundPotentials}
 use Rattle.chain.proofs.Words.{natural}

@@ -1,5 +1,5 @@
 -- The pairing of a section with itself: each successor with itself, at its own part.
-use Rattle.std.proofs.Common.{◌≡◌, ℕ, zero, suc, ◌+◌, ◌-◌, ◌*◌, ◌/◌, ◌%◌, ◌<◌, ◌≤◌, Bool, true, false, cond, eqb, ltb, List, [], ◌∷◌, ◌++◌, length, ℤ, pos, ◌≤ℤ◌, sym, refl, ap, ◌∙◌, ⊎_elim, mul-zero, arith}
+use Rattle.std.proofs.Common.{◌≡◌, ℕ, zero, suc, ◌+◌, ◌-◌, ◌*◌, ◌<◌, ◌≤◌, Bool, true, false, cond, eqb, ltb, List, [], ◌∷◌, ◌++◌, length, ℤ, pos, sym, refl, ap, ◌∙◌, ⊎_elim, mul-zero, arith}
 use borrow.Author.Differences.{up, at_most_in}
 use Rattle.std.proofs.lemmas.List.{get_or_append_left, get_or-append-add, length-append, append-nil}
 use Rattle.std.proofs.lemmas.Bool.{cases_eq, cases_lt, cond-true, cond-false, cond_both, eq-eqb, ne_eqb, lt-ltb, le-ltb}
@@ -8,9 +8,9 @@ use Rattle.finite.proofs.Sums.{sum_same, sum_none, sum_one, term_le_sum}
 use Rattle.std.specs.List.{AllByRecursion as All}
 use Rattle.chart.specs.Distances.{Distances}
 use Rattle.chart.specs.Laws.{Word}
-use Rattle.chain.specs.Chain.{Chain, Sound, Judges}
+use Rattle.chain.specs.Chain.{Chain, Sound}
 use Rattle.chain.specs.Words.{word, Between}
-use Rattle.chain.specs.Pairing.{left, right, amount, triples, margin, cost, Pairing}
+use Rattle.chain.specs.Pairing.{left, right, amount, triples, cost, Pairing}
 
 -- the sum of f over the triples
 abbrev over : (ℕ → ℕ → ℕ → ℕ) → List ℤ → ℕ

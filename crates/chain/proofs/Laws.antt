@@ -1,26 +1,25 @@
 -- Weighted charts keep every law of a kind, and their supported tables are nowhere raised.
-use Rattle.std.proofs.Common.{◌≡◌, ℕ, zero, suc, ◌+◌, ◌-◌, ◌*◌, ◌<◌, ◌≤◌, Bool, true, false, cond, not, eqb, ◌⊎◌, List, [], length, ℤ, pos, ◌+ℤ◌, ◌*ℤ◌, neg_ℤ, ◌≤ℤ◌, Some, None, Ok, Err, Option, sym, refl, ap, ◌∙◌, inl, inr, ⊎_elim, le_trans, mul_assoc, mul_comm, mul-le-mul, mul-le-mul_left, mul-pos, one-mul, mul-zero, arith}
-use borrow.Author.Differences.{up, down, le_out, at_most_in}
+use Rattle.std.proofs.Common.{◌≡◌, ℕ, ◌*◌, ◌<◌, ◌≤◌, true, List, length, ℤ, pos, ◌*ℤ◌, Some, None, Err, Option, sym, refl, ap, ◌∙◌, inl, inr, ⊎_elim, le_trans, mul_assoc, mul_comm, mul-le-mul, mul-le-mul_left, mul-pos, one-mul, mul-zero, arith}
+use borrow.Author.Differences.{le_out, at_most_in}
 use Rattle.std.proofs.lemmas.Bool.{cases_Bool, cases_lt, eq-eqb, eqb-true, not-false, not_from_true}
 use Rattle.finite.specs.Sums.{sum}
-use Rattle.finite.proofs.Sums.{sum_le, sum_mul, sum_same}
+use Rattle.finite.proofs.Sums.{sum_le, sum_mul}
 use Rattle.chart.specs.declared.side.Side.{Side}
 use Rattle.chart.specs.declared.side.Side.TheVariants.{Upper, Lower}
 use Rattle.chart.specs.Distances.{Distances}
 use Rattle.chart.specs.Weighing.{Weaker, Weighs}
 use Rattle.chart.specs.Meaning.{Judged, Shown}
 use Rattle.chart.specs.Laws.{Tighter, Lawful}
-use Rattle.chart.specs.Supported.{Supported}
 use Rattle.chain.specs.declared.fault.Fault.{Fault}
 use Rattle.chain.specs.declared.fault.Fault.TheVariants.{Unjudged}
-use Rattle.chain.specs.Chain.{Chain, Sound, Judges, parted, unjudged}
+use Rattle.chain.specs.Chain.{Chain, Sound, Judges, unjudged}
 use Rattle.chain.specs.Pairing.{left, right, amount, triples, cost, Pairing, PairingShows, pairing_fault, least_claim}
 use Rattle.chain.specs.Potentials.{gain, Potentials, PotentialsShow, potentials_fault, greatest_claim}
 use Rattle.chain.specs.Meaning.{Valid, Shows, answer, weighed, means}
-use Rattle.chain.specs.Coupling.{Coupling, total, MeanAtMost, NowhereRaised, SupportedIsNowhereRaised}
+use Rattle.chain.specs.Coupling.{Coupling, total, MeanAtMost, SupportedIsNowhereRaised}
 use Rattle.chain.proofs.Valid.{judges_from, pairing_from, pairing_to, potentials_from, potentials_to}
 use Rattle.chain.proofs.Claims.{least_shown, greatest_shown}
-use Rattle.chain.proofs.Couplings.{left_in, right_in, spelled, spelled_total, spelled_times, mean_shown, product, mass, total_le, potentials_bounded}
+use Rattle.chain.proofs.Couplings.{left_in, right_in, spelled, spelled_total, spelled_times, mean_shown, product, mass, potentials_bounded}
 use Rattle.chain.proofs.Diagonal.{itself}
 
 module _ (c : Chain) (sound : Sound c) where

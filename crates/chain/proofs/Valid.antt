@@ -1,18 +1,17 @@
 -- A showing has no fault exactly if it is valid.
-use Rattle.std.proofs.Common.{◌≡◌, ℕ, zero, suc, ◌+◌, ◌-◌, ◌*◌, ◌/◌, ◌%◌, ◌<◌, ◌≤◌, Bool, true, false, cond, not, ◌&&◌, ◌||◌, eqb, ltb, ◌⊎◌, List, [], ◌∷◌, length, ℤ, pos, ◌+ℤ◌, neg_ℤ, ◌≤ℤ◌, ◌<ℤ◌, Some, None, Option, sym, refl, ap, ◌∙◌, ⊎_elim, arith}
+use Rattle.std.proofs.Common.{◌≡◌, ℕ, zero, suc, ◌+◌, ◌-◌, ◌*◌, ◌/◌, ◌%◌, ◌<◌, ◌≤◌, true, false, not, ◌&&◌, ◌||◌, eqb, ltb, List, length, ℤ, pos, ◌+ℤ◌, neg_ℤ, ◌≤ℤ◌, ◌<ℤ◌, None, sym, refl, ◌∙◌, ⊎_elim, arith}
 use lib.Signed.{lt_z}
 use borrow.Author.Differences.{lt-false, false_is_lt, true_is_lt, lt_out, le_out, at_most_in}
 use Rattle.std.specs.Option.{option_map}
-use Rattle.std.proofs.lemmas.Bool.{cases_lt, or_parts, or_from, not-false, eqb-true, eq-eqb, not_from_true, ltb-true, ltb-false, lt-ltb, le-ltb, cond-true, cond-false, and_left, and_right, and_from, cases_Bool}
+use Rattle.std.proofs.lemmas.Bool.{cases_lt, or_parts, not-false, eqb-true, eq-eqb, not_from_true, ltb-true, ltb-false, lt-ltb, le-ltb, cond-true, cond-false, and_left, and_right}
 use Rattle.std.proofs.lemmas.Nat.{div-mul-add, mod-mul-add, mul-add-lt, div_below, mod_below}
-use Rattle.finite.specs.Search.{given, first_of, least}
+use Rattle.finite.specs.Search.{given, least}
 use Rattle.finite.proofs.Search.{first_of_none, given_none, mapped_none, least_none_at, least_none}
 use Rattle.chart.specs.Distances.{Distances}
-use Rattle.chain.specs.declared.fault.Fault.{Fault}
 use Rattle.chain.specs.declared.fault.Fault.TheVariants.{Unjudged, PairingCount, FirstMargin, SecondMargin, PotentialsCount, Range, Above}
-use Rattle.chain.specs.Chain.{Chain, Judges, parted, unjudged}
+use Rattle.chain.specs.Chain.{Chain, Judges, unjudged}
 use Rattle.chain.specs.Words.{word, Between, outside}
-use Rattle.chain.specs.Pairing.{left, right, amount, triples, margin, Pairing, bad_word, word_fault, pairing_fault}
+use Rattle.chain.specs.Pairing.{left, right, margin, Pairing, bad_word, word_fault, pairing_fault}
 use Rattle.chain.specs.Potentials.{alpha, beta, above, Potentials, potentials_fault}
 use Rattle.chain.proofs.Words.{between_outside, outside_between}
 

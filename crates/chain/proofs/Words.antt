@@ -1,7 +1,7 @@
 -- Words within bounds, and the test of it.
-use Rattle.std.proofs.Common.{◌≡◌, ℕ, ◌+◌, ◌≤◌, Bool, true, false, ◌⊎◌, ℤ, pos, negsuc, ◌<ℤ◌, sym, refl, inl, inr, arith}
+use Rattle.std.proofs.Common.{◌≡◌, ℕ, ◌+◌, ◌≤◌, true, false, ℤ, pos, negsuc, ◌<ℤ◌, sym, refl, arith}
 use lib.Signed.{lt_z}
-use borrow.Author.Differences.{up, down, ints, lt-false, false_is_lt, true_is_lt, lt_out, le_out, at_most_in, same_in}
+use borrow.Author.Differences.{up, down, lt-false, false_is_lt, true_is_lt, lt_out, le_out, at_most_in}
 use Rattle.std.proofs.lemmas.Bool.{or_left, or_right, or_from, or_parts}
 use Rattle.chain.specs.Words.{Between, outside}
 

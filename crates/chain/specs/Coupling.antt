@@ -1,7 +1,7 @@
 -- Couplings of two rows of the Markov chain, and the discounted Kantorovich operator on tables of distances, with no real numbers.
 use Rattle.std.specs.Prelude.{◌≡◌, ℕ, ◌+◌, ◌*◌, ◌<◌, ◌≤◌, true, List, ℤ}
 use Rattle.finite.specs.Sums.{sum}
-use Rattle.chart.specs.declared.side.Side.TheVariants.{Upper, Lower}
+use Rattle.chart.specs.declared.side.Side.TheVariants.{Lower}
 use Rattle.chart.specs.Distances.{Distances}
 use Rattle.chart.specs.Laws.{Within}
 use Rattle.chart.specs.Meaning.{Shown}

@@ -1,5 +1,5 @@
 -- What is known of a header that is read.
-use Rattle.std.proofs.Common.{◌≡◌, ℕ, ◌+◌, ◌*◌, ◌<◌, ◌≤◌, Bool, true, not, eqb, ltb, List, [], ◌∷◌, length, Some, None, Ok, Option, refl, subst, arith}
+use Rattle.std.proofs.Common.{◌≡◌, ℕ, ◌+◌, ◌*◌, ◌<◌, ◌≤◌, Bool, true, not, eqb, ltb, List, ◌∷◌, length, Some, None, Ok, Option, refl, subst, arith}
 use Rattle.std.proofs.lemmas.Nat.{mul-add-lt}
 use Rattle.std.proofs.lemmas.Bool.{not-false, and_parts, leb-true, ltb-true}
 use Rattle.finite.specs.Search.{given, first_of}

@@ -1,5 +1,5 @@
 -- A weighing, field by field.
-use Rattle.std.proofs.Common.{◌≡◌, ℕ, ◌≤◌, false, List, [], ◌∷◌, length, drop, ℤ, Some, Ok, Err, Result, sym, refl, ap, ◌∙◌, arith, length-drop}
+use Rattle.std.proofs.Common.{◌≡◌, ℕ, ◌≤◌, false, List, [], ◌∷◌, length, drop, ℤ, Some, Ok, Err, sym, refl, ap, ◌∙◌, arith, length-drop}
 use Rattle.std.proofs.lemmas.List.{drop-drop}
 use Rattle.chart.specs.declared.side.Side.{Side}
 use Rattle.lines.specs.declared.command.Command.TheVariants.{Weigh}

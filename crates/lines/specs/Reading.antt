@@ -1,5 +1,5 @@
 -- What a line asks for, or what is wrong with it.
-use Rattle.std.specs.Prelude.{ℕ, ◌+◌, Bool, false, cond, List, [], ◌∷◌, drop, ℤ, Some, None, Ok, Err, codes, Option, Result, ◌==◌, slice_index}
+use Rattle.std.specs.Prelude.{ℕ, ◌+◌, Bool, cond, List, [], ◌∷◌, drop, ℤ, Some, None, Ok, Err, codes, Option, Result, ◌==◌, slice_index}
 use Rattle.std.specs.Option.{ok_or}
 use Rattle.std.specs.Str.{bytes_eq}
 use Rattle.chart.specs.declared.side.Side.{Side}

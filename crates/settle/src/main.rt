@@ -16,8 +16,9 @@ use lines::numerals::read_number;
 use session::settle_lines;
 use std::fs::File;
 use std::io::{BufReader, BufWriter, Read, Write};
+use std::process::ExitCode;
 use std::{env, io};
-use weighted::chart::Weighted;
+use weighted::charts::Weighted;
 
 /// More bytes than any chart file has.
 const TOO_LONG: u64 = 65_536;
@@ -78,10 +79,12 @@ fn run(rt: &HostRuntime) -> Result<(), Failure> {
     result
 }
 
-fn main(rt: HostRuntime) -> Result<(), Failure> {
-    let result = run(&rt);
-    if let Err(failure) = &result {
-        let _ = eprintln!(rt; "{failure}");
+fn main(rt: HostRuntime) -> ExitCode {
+    match run(&rt) {
+        Ok(()) => ExitCode::SUCCESS,
+        Err(failure) => {
+            let _ = eprintln!(rt; "{failure}");
+            ExitCode::FAILURE
+        }
     }
-    result
 }

@@ -1,6 +1,6 @@
 -- The sum of potentials that keep within the top is small.
 use Rattle.std.proofs.Common.{◌≡◌, ℕ, ◌+◌, ◌*◌, ◌<◌, ◌≤◌, List, ℤ, pos, ◌+ℤ◌, ◌*ℤ◌, neg_ℤ, ◌≤ℤ◌, ap, ◌∙◌, mul-le-mul_right, mul_comm, arith}
-use borrow.Author.Differences.{up, down, le_out, at_most_in, sum_is_lem, neg_is}
+use borrow.Author.Differences.{le_out, at_most_in, sum_is_lem, neg_is}
 use Rattle.finite.specs.Sums.{sum, sumℤ}
 use Rattle.finite.proofs.Sums.{sum_same, sum_mul}
 use Rattle.chart.specs.Distances.{Distances}

@@ -1,6 +1,6 @@
 -- Signed numbers within a bound of 0.
-use Rattle.std.proofs.Common.{◌≡◌, ℕ, zero, suc, ◌+◌, ◌*◌, ◌<◌, ◌≤◌, ℤ, pos, ◌+ℤ◌, ◌*ℤ◌, neg_ℤ, sym, refl, ap, ◌∙◌, mul-le-mul_left, zero-mul, mul-add, arith}
-use borrow.Author.Differences.{up, down, ints, sum_is_lem, product_is}
+use Rattle.std.proofs.Common.{ℕ, zero, suc, ◌+◌, ◌*◌, ◌<◌, ◌≤◌, ℤ, pos, ◌*ℤ◌, mul-le-mul_left, zero-mul, mul-add, arith}
+use borrow.Author.Differences.{up, down, sum_is_lem, product_is}
 use Rattle.finite.specs.Sums.{sum, sumℤ}
 
 -- -m ≤ z ≤ m

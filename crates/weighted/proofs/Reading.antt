@@ -1,5 +1,5 @@
 -- What a file is read as, check by check.
-use Rattle.std.proofs.Common.{◌≡◌, ℕ, ◌<◌, not, eqb, List, get_or, Some, None, Ok, Err, Option, sym, refl, ap, ◌∙◌, arith}
+use Rattle.std.proofs.Common.{◌≡◌, ℕ, ◌<◌, not, eqb, List, get_or, Some, None, Ok, Err, Option, sym, refl, ap, arith}
 use mathlib.Core.Path.{fun_ext}
 use Rattle.std.proofs.lemmas.Bool.{eqb-true, not-false}
 use Rattle.finite.specs.Sums.{sum}

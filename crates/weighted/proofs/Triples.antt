@@ -1,5 +1,5 @@
 -- The triples of a pairing, one after another.
-use Rattle.std.proofs.Common.{◌≡◌, ℕ, ◌+◌, ◌*◌, ◌%◌, ◌<◌, ◌≤◌, Bool, true, false, cond, ltb, List, length, ℤ, pos, ◌+ℤ◌, Some, None, sym, refl, ap, ◌∙◌, ⊎_elim, arith, w64, SFits, to_z, of_z}
+use Rattle.std.proofs.Common.{◌≡◌, ℕ, ◌+◌, ◌*◌, ◌%◌, ◌<◌, ◌≤◌, true, false, List, length, ℤ, pos, ◌+ℤ◌, Some, None, sym, refl, ap, ◌∙◌, ⊎_elim, arith, w64, SFits, to_z, of_z}
 use borrow.Author.Differences.{fits_in}
 use Rattle.std.specs.Option.{option_map}
 use Rattle.std.proofs.lemmas.Int.{to_z-of_z, to_z_pos}
@@ -10,7 +10,7 @@ use Rattle.chain.specs.declared.fault.Fault.{Fault}
 use Rattle.chain.specs.declared.fault.Fault.TheVariants.{Amount}
 use Rattle.chain.specs.Chain.{Chain}
 use Rattle.chain.specs.Pairing.{triples, bad_word, word_fault}
-use Rattle.weighted.specs.Gathering.{Reads, FirstBad}
+use Rattle.weighted.specs.Gathering.{FirstBad}
 
 module _ (c : Chain) (ws : List ℤ) (j : ℕ) where
   pub third_bad : bad_word c ws (3 * j) ≡ false → bad_word c ws (3 * j + 1) ≡ false → bad_word c ws (3 * j + 2) ≡ true → FirstBad c ws j (Amount (3 * j + 2))

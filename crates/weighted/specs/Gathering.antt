@@ -5,8 +5,8 @@ use Rattle.chart.specs.Distances.{Distances}
 use Rattle.chain.specs.Chain.{Chain}
 use Rattle.chain.specs.declared.fault.Fault.{Fault}
 use Rattle.chain.specs.Pairing.{left, right, amount, margin, cost, bad_word, word_fault}
-use Rattle.weighted.specs.declared.chart.pairing.Gathered.{Gathered}
-use Rattle.weighted.specs.declared.chart.pairing.Triple.{Triple}
+use Rattle.weighted.specs.declared.charts.pairing.Gathered.{Gathered}
+use Rattle.weighted.specs.declared.charts.pairing.Triple.{Triple}
 
 -- the triple j, whose words are good
 pub record Reads (c : Chain) (ws : List ℤ) (j : ℕ) (r : Triple) : Type 0 where

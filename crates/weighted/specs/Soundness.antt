@@ -1,6 +1,6 @@
 -- The chain of a weighted chart is sound.
 use Rattle.chain.specs.Chain.{Sound}
-use Rattle.weighted.specs.declared.chart.Weighted.{Weighted}
+use Rattle.weighted.specs.declared.charts.Weighted.{Weighted}
 use Rattle.weighted.specs.View.{chain}
 
 pub sound : (w : Weighted) → Sound (chain w)

@@ -1,7 +1,7 @@
 -- The Markov chain that a weighted chart of the code stands for.
 use Rattle.std.specs.Prelude.{slice_index}
 use Rattle.chain.specs.Chain.{Chain}
-use Rattle.weighted.specs.declared.chart.Weighted.{Weighted}
+use Rattle.weighted.specs.declared.charts.Weighted.{Weighted}
 use Rattle.weighted.specs.Rows.{entry_at}
 
 abbrev pub chain : Weighted → Chain

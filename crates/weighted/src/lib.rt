@@ -2,4 +2,4 @@
 
 #![tactic(auto)]
 
-pub mod chart;
+pub mod charts;

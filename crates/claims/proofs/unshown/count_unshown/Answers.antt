@@ -9,6 +9,6 @@ pub returns : goal.returns
 returns c =
     let d = c.args.claims.now in
     let b = c.args.marks.now in
-    c.count-waiting.ensures
+    c.count_waiting.ensures
     ∙ passing_rows 32 32 (length d.values) (λ k. is_some (get_or d.values k None) && not (get_or b.shown k false)) (waits (values_of d) (marks_of b)) (omega arith)
     (λ s t hs ht. rw (lt-ltb s 32 hs, lt-ltb t 32 ht))

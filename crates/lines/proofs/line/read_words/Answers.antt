@@ -6,23 +6,23 @@ use Rattle.lines.specs.Reading.{words_from}
 use Rattle.lines.proofs.Words.{onto, words_more, words_wrong, words_all}
 use Rattle.lines.proofs.line.read_words.Goals as goal
 
-pub returns-in-default-read-word : goal.returns-in-default-read-word
-returns-in-default-read-word c =
-    inr (sym c.loop-field.invariant.2 ∙ words_wrong _ _ _ _ _ c.in-Some.ensures.0 (sym c.in-default-read-word.ensures) ∙ sym (ap (λ k. Err (NotAWord k)) c.len.ensures))
+pub returns-in_default-read_word : goal.returns-in_default-read_word
+returns-in_default-read_word c =
+    inr (sym c.loop-field.invariant.2 ∙ words_wrong _ _ _ _ _ c.in-Some.ensures.0 (sym c.in_default-read_word.ensures) ∙ sym (ap (λ k. Err (NotAWord k)) c.len.ensures))
 
 pub loop-field-preserved : goal.loop-field-preserved
 loop-field-preserved c =
-    let fits : SFits w32 c.in-Some-read-word.word = search rules in
-    let items : vec_items c.push.new.self ≡ vec_items c.loop-field.words ++ c.in-Some-read-word.word ∷ [] =
-    c.in-ok-push.ensures.items ∙ ap (λ w. vec_items c.loop-field.words ++ w ∷ []) (to_z-of_z w32 _ fits) in
-    let len : vec_len c.push.new.self ≡ vec_len c.loop-field.words + 1 = c.in-ok-push.ensures.len in
+    let fits : SFits w32 c.in-Some-read_word.word = search rules in
+    let items : vec_items c.push.new.self ≡ vec_items c.loop-field.words ++ c.in-Some-read_word.word ∷ [] =
+    c.in_ok-push.ensures.items ∙ ap (λ w. vec_items c.loop-field.words ++ w ∷ []) (to_z-of_z w32 _ fits) in
+    let len : vec_len c.push.new.self ≡ vec_len c.loop-field.words + 1 = c.in_ok-push.ensures.len in
     let count = ap length c.in-Some.ensures.0 in (
       omega (arith, c.loop-field.invariant.0),
-      omega (arith, c.loop-field.invariant.1, c.in-ok-push.ensures.capacity),
+      omega (arith, c.loop-field.invariant.1, c.in_ok-push.ensures.capacity),
       (λ i. onto (items i) (words_from (len i) (fields c.in-Some.after.now)))
-          ∙ words_more _ _ _ _ _ _ c.in-Some.ensures.0 (sym c.in-Some-read-word.ensures)
+          ∙ words_more _ _ _ _ _ _ c.in-Some.ensures.0 (sym c.in-Some-read_word.ensures)
           ∙ c.loop-field.invariant.2,
     )
 
 pub returns : goal.returns
-returns c = sym c.loop-field.invariant.2 ∙ words_all _ _ _ c.in-default.ensures
+returns c = sym c.loop-field.invariant.2 ∙ words_all _ _ _ c.in_default.ensures

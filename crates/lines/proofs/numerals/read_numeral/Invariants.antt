@@ -1,4 +1,4 @@
-use Rattle.std.proofs.Common.{◌≡◌, ◌<◌, ◌≤◌, length, drop}
+use Rattle.std.proofs.Common.{◌≡◌, ◌≤◌, drop}
 use Rattle.lines.specs.Numerals.{digits_after, numeral}
 use Rattle.lines.proofs.numerals.read_numeral.Given as goal
 

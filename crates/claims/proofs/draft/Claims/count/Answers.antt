@@ -7,6 +7,6 @@ use Rattle.claims.proofs.draft.Claims.count.Goals as goal
 pub returns : goal.returns
 returns c =
     let d = c.args.self.now in
-    c.count-values.ensures
+    c.count_values.ensures
     ∙ passing_rows 32 32 (length d.values) (λ k. is_some (get_or d.values k None)) (λ s t. is_some (values_of d s t)) (omega arith)
     (λ s t hs ht. ap is_some (grid_inside None d.values s t hs ht))

@@ -1,0 +1,68 @@
+ghost use Rattle.std.specs.Prelude.{◌≡◌, slice_index};
+ghost use Rattle.chart.specs.Tables.{distances};
+ghost use Rattle.chain.specs.Meaning.{means, weighed};
+ghost use Rattle.chain.specs.Coupling.{SupportedIsNowhereRaised, CouplingsBoundPotentials};
+ghost use Rattle.weighted.specs.View.{chain};
+ghost use Rattle.chain.proofs.Laws;
+ghost use Rattle.weighted.specs.Soundness.{sound};
+
+use crate::charts::Weighted;
+use chain::fault::Fault;
+use chart::kind::Chart;
+use chart::side::Side;
+use chart::table::Table;
+
+impl Weighted {
+    /// The band of a section, 0 where there is no such section.
+    fn band(&self, s: usize) -> u8
+        ensures { result ≡ slice_index self.now.bands s }
+    {
+        if s < self.bands.len() {
+            self.bands[s]
+        } else {
+            0
+        }
+    }
+}
+
+impl Chart for Weighted {
+    type Fault = Fault;
+
+    ghost meaning = { λ w. means (chain w) };
+
+    ghost lawful = { λ w. Laws.lawful (chain w) (sound w) };
+
+    fn sections(&self) -> usize {
+        self.n
+    }
+
+    fn discount(&self) -> (u32, u32) {
+        (self.a as u32, self.b as u32)
+    }
+
+    fn longest(&self) -> u32 {
+        3072
+    }
+
+    fn apart(&self, s: usize, t: usize) -> bool {
+        self.band(s) != self.band(t)
+    }
+
+    fn weigh(
+        &self,
+        side: Side,
+        table: &Table,
+        s: usize,
+        t: usize,
+        words: &[i32],
+    ) -> Result<u32, Fault>
+        ensures answer { result ≡ weighed (chain self.now) side (distances table.now) s t words.now }
+        ensures supported { SupportedIsNowhereRaised (chain self.now) }
+        ensures bounded { CouplingsBoundPotentials (chain self.now) }
+    {
+        match side {
+            Side::Upper => self.weigh_pairing(table, s, t, words),
+            Side::Lower => self.weigh_potentials(table, s, t, words),
+        }
+    }
+}
