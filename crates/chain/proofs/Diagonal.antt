@@ -5,7 +5,7 @@ use Rattle.std.proofs.lemmas.List.{get_or_append_left, get_or-append-add, length
 use Rattle.std.proofs.lemmas.Bool.{cases_eq, cases_lt, cond-true, cond-false, cond_both, eq-eqb, ne_eqb, lt-ltb, le-ltb}
 use Rattle.finite.specs.Sums.{sum}
 use Rattle.finite.proofs.Sums.{sum_same, sum_none, sum_one, term_le_sum}
-use Rattle.std.specs.List.{AllByRecursion as All}
+use Rattle.std.specs.List.{AllByRecursion}
 use Rattle.chart.specs.Distances.{Distances}
 use Rattle.chart.specs.Laws.{Word}
 use Rattle.chain.specs.Chain.{Chain, Sound}
@@ -55,9 +55,9 @@ record Good (c : Chain) (p : ℕ → ℕ) (k : ℕ) (ws : List ℤ) : Type 0 whe
   lefts : (j : ℕ) → j < triples ws → Between (pos 0) (pos (c.n - 1)) (word ws (3 * j))
   rights : (j : ℕ) → j < triples ws → Between (pos 0) (pos (c.n - 1)) (word ws (3 * j + 1))
   amounts : (j : ℕ) → j < triples ws → Between (pos 1) (pos c.whole) (word ws (3 * j + 2))
-  words : All Word ws
+  words : AllByRecursion Word ws
 
-all_append : (xs ys : List ℤ) → All Word xs → All Word ys → All Word (xs ++ ys)
+all_append : (xs ys : List ℤ) → AllByRecursion Word xs → AllByRecursion Word ys → AllByRecursion Word (xs ++ ys)
 all_append [] ys h k = k
 all_append (x ∷ xs) ys h k = (h.0, all_append xs ys h.1 k)
 
@@ -135,7 +135,7 @@ only x u (suc y) = rw (lt-ltb 0 (suc y) (omega arith)) (⊎_elim
 
 pub record Itself (c : Chain) (s : ℕ) : Type 0 where
   pub words : List ℤ
-  pub fit : All Word words
+  pub fit : AllByRecursion Word words
   pub valid : Pairing c s s words
   pub free : (d : Distances) → ((x : ℕ) → x < c.n → d.entry x x ≡ 0) → cost d words ≡ 0
 

@@ -1,6 +1,6 @@
 -- The laws that every kind of chart keeps.
 use Rattle.std.specs.Prelude.{◌≡◌, ℕ, ◌+◌, ◌*◌, ◌<◌, ◌≤◌, false, List, [], ◌∷◌, length, ℤ, pos, negsuc, Err}
-use Rattle.std.specs.List.{AllByRecursion as All}
+use Rattle.std.specs.List.{AllByRecursion}
 use Rattle.chart.specs.declared.side.Side.{Side}
 use Rattle.chart.specs.declared.side.Side.TheVariants.{Upper, Lower}
 use Rattle.chart.specs.Distances.{Distances}
@@ -37,7 +37,7 @@ module _ {F : Type 0} (m : Meaning F) where
     -- no section is apart from itself, and a pairing of it with itself shows 0 in every table with zeros at all pairs (x, x)
     pub self_judged : (s : ℕ) → m.apart s s ≡ false
     pub self_paired : (s : ℕ) → s < m.sections
-        → (ws : List ℤ) × All Word ws × ((d : Distances) → ((x : ℕ) → x < m.sections → d.entry x x ≡ 0) → Shown m Upper d s s ws 0)
+        → (ws : List ℤ) × AllByRecursion Word ws × ((d : Distances) → ((x : ℕ) → x < m.sections → d.entry x x ≡ 0) → Shown m Upper d s s ws 0)
     -- with a claim, a pairing shows each greater one, and potentials show each smaller one
     pub closed : (side : Side) (d : Distances) (s t : ℕ) (ws : List ℤ) (c e : ℕ) → Shown m side d s t ws c → Weaker side c e → Shown m side d s t ws e
     -- a pairing shows what it shows in every table over the same top that is nowhere greater, potentials in every one that is nowhere smaller

@@ -1,6 +1,6 @@
 -- Full certificates, and how one is sent.
 use Rattle.std.specs.Prelude.{◌≡◌, ℕ, ◌<◌, ◌≤◌, Bool, true, false, ◌&&◌, ◌||◌, List, [], ◌∷◌, ◌++◌, map, ℤ, ◌==◌}
-use Rattle.std.specs.List.{AllByRecursion as All}
+use Rattle.std.specs.List.{AllByRecursion}
 use Rattle.chart.specs.declared.side.Side.{Side}
 use Rattle.chart.specs.declared.side.Side.TheVariants.{Upper, Lower}
 use Rattle.chart.specs.Laws.{Word}
@@ -16,8 +16,8 @@ pub record Certificate {F : Type 0} (m : Meaning F) (K : ℕ) : Type 0 where
   pub potentials : ℕ → ℕ → List ℤ
   pub bounded : (s t : ℕ) → s < m.sections → t < m.sections → entry s t ≤ K
   pub apart : (s t : ℕ) → s < m.sections → t < m.sections → m.apart s t ≡ true → entry s t ≡ K
-  pub paired : (s t : ℕ) → Judged m s t → All Word (pairing s t) × Shown m Upper (over K entry) s t (pairing s t) (entry s t)
-  pub backed : (s t : ℕ) → Judged m s t → 0 < entry s t → All Word (potentials s t) × Shown m Lower (over K entry) s t (potentials s t) (entry s t)
+  pub paired : (s t : ℕ) → Judged m s t → AllByRecursion Word (pairing s t) × Shown m Upper (over K entry) s t (pairing s t) (entry s t)
+  pub backed : (s t : ℕ) → Judged m s t → 0 < entry s t → AllByRecursion Word (potentials s t) × Shown m Lower (over K entry) s t (potentials s t) (entry s t)
 
 abbrev pub Pair : Type 0
 Pair = ℕ × ℕ

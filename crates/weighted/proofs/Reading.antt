@@ -6,7 +6,7 @@ use Rattle.finite.specs.Sums.{sum}
 use Rattle.finite.specs.Search.{least}
 use Rattle.finite.proofs.Search.{least_none_at}
 use Rattle.files.specs.declared.header.Header.{Header}
-use Rattle.files.specs.declared.kind.Kind.TheVariants.{Weighted as weighted-kind}
+use Rattle.files.specs.declared.kind.Kind.TheVariants.{Weighted as weighted_kind}
 use Rattle.files.specs.declared.refusal.ReadRefusal.{ReadRefusal}
 use Rattle.files.specs.declared.refusal.ReadRefusal.TheVariants.{Row}
 use Rattle.files.specs.Format.{sections_field, whole_field}
@@ -20,10 +20,10 @@ unrefused : (o : Option ReadRefusal) (g h : Header) → unless_refused o g ≡ O
 unrefused (Some e) g h p = let z : ◌≡◌ {A = ℕ} 0 1 = cc in absurd (omega arith)
 unrefused None g h p = refl
 
-module _ (bs : List ℕ) (h : Header) (rows : List (List ℕ)) (fits : Fits weighted-kind bs h) (read : header_read weighted-kind bs ≡ Ok h)
+module _ (bs : List ℕ) (h : Header) (rows : List (List ℕ)) (fits : Fits weighted_kind bs h) (read : header_read weighted_kind bs ≡ Ok h)
     (parts : (s u : ℕ) → entry_at rows s u ≡ part_in bs s u) where
-  header_good : header_refusal weighted-kind bs ≡ None
-  header_good = unrefused (header_refusal weighted-kind bs) _ h read
+  header_good : header_refusal weighted_kind bs ≡ None
+  header_good = unrefused (header_refusal weighted_kind bs) _ h read
 
   rows_are : entry_at rows ≡ part_in bs
   rows_are = fun_ext (λ s. fun_ext (λ u. parts s u))

@@ -3,7 +3,7 @@ use Rattle.std.specs.Prelude.{ℕ, ◌+◌, ◌*◌, cond, not, ◌&&◌, List, 
 use Rattle.std.specs.Option.{option_map}
 use Rattle.finite.specs.Sums.{sum}
 use Rattle.finite.specs.Search.{first_of, least}
-use Rattle.files.specs.declared.kind.Kind.TheVariants.{Weighted as weighted-kind}
+use Rattle.files.specs.declared.kind.Kind.TheVariants.{Weighted as weighted_kind}
 use Rattle.files.specs.declared.refusal.ReadRefusal.{ReadRefusal}
 use Rattle.files.specs.declared.refusal.ReadRefusal.TheVariants.{Row}
 use Rattle.files.specs.Format.{byte, field, sections_field, numerator_field, denominator_field, whole_field, bands_field, routes_field}
@@ -32,7 +32,7 @@ chain_in bs = record {
 -- the first check that the file fails: one of its header's, or a row that does not add up
 abbrev pub read_refusal : List ℕ → Option ReadRefusal
 read_refusal bs = first_of (
-    header_refusal weighted-kind bs
+    header_refusal weighted_kind bs
     ∷ option_map Row (least (sections_field bs) (λ s. not (sum (sections_field bs) (part_in bs s) == whole_field bs)))
     ∷ [])
 

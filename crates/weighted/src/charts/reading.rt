@@ -5,7 +5,7 @@ ghost use Rattle.weighted.specs.View.{chain};
 ghost use Rattle.weighted.specs.Rows.{entry_at};
 ghost use Rattle.weighted.specs.Reading.{band_in, part_in, chain_in, read_answer, fresh_chain};
 ghost use Rattle.files.specs.Reading.{Fits};
-ghost use Rattle.files.specs.declared.kind.Kind.TheVariants.{Weighted as weighted-kind};
+ghost use Rattle.files.specs.declared.kind.Kind.TheVariants.{Weighted as weighted_kind};
 
 use crate::charts::Weighted;
 use files::bytes::{byte, field};
@@ -15,7 +15,7 @@ use files::refusal::ReadRefusal;
 
 /// The bands of a file with this header.
 fn read_bands(bytes: &[u8], header: Header) -> [u8; 32]
-    requires { Fits weighted-kind bytes.now header }
+    requires { Fits weighted_kind bytes.now header }
     ensures { (s : ℕ) → slice_index result s ≡ band_in bytes.now s }
 {
     let mut bands = [0; 32];
@@ -27,7 +27,7 @@ fn read_bands(bytes: &[u8], header: Header) -> [u8; 32]
 
 /// Row `s` of a file with this header.
 fn read_row(bytes: &[u8], header: Header, s: usize) -> [u16; 32]
-    requires { (Fits weighted-kind bytes.now header) × (s ≤ 31) }
+    requires { (Fits weighted_kind bytes.now header) × (s ≤ 31) }
     ensures { (u : ℕ) → slice_index result u ≡ part_in bytes.now s u }
 {
     let mut row = [0; 32];
@@ -41,7 +41,7 @@ fn read_row(bytes: &[u8], header: Header, s: usize) -> [u16; 32]
 
 /// The rows of a file with this header.
 fn read_rows(bytes: &[u8], header: Header) -> [[u16; 32]; 32]
-    requires { Fits weighted-kind bytes.now header }
+    requires { Fits weighted_kind bytes.now header }
     ensures { (s u : ℕ) → entry_at result s u ≡ part_in bytes.now s u }
 {
     let mut rows = [[0; 32]; 32];
