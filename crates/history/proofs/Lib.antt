@@ -3,6 +3,7 @@ pub mod Peak
 pub mod Sound
 pub mod Grounds
 pub mod Outcomes
+pub mod Alone
 pub mod Sending
 pub mod Resting
 pub mod Agreement

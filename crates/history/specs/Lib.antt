@@ -4,3 +4,4 @@ pub mod Rules
 pub mod Bounding
 pub mod Certificate
 pub mod Promises
+pub mod Lines

@@ -55,6 +55,10 @@ SettledAgree m o = Same m o → Always m (λ K σ h. Always o (λ J τ g.
 abbrev pub calls : {F : Type 0} → List (Page F) → List Call
 calls h = map (λ p. p.call) h
 
+-- whatever history of the same calls a register of the chart and the top has, its answers, its refusals and the state after it are these
+abbrev pub ByCallsAlone : {F : Type 0} → Meaning F → ℕ → State → List (Page F) → Type 0
+ByCallsAlone {F} m K σ h = (g : List (Page F)) (τ : State) → Run m K (fresh m K) g τ → calls g ≡ calls h → (g ≡ h) × (τ ≡ σ)
+
 -- the call of the page was accepted
 abbrev pub Accepted : {F : Type 0} → Page F → Type 0
 Accepted p = (a : Answer) × (p.outcome ≡ Ok a)
@@ -119,6 +123,7 @@ pub record Promise {F : Type 0} (m : Meaning F) (K : ℕ) (σ : State) (h : List
   pub rests : (σ.phase ≡ resting) ↔ EachEnded h
   pub certificates : TakesCertificates m K σ
   pub outcome : (c : Call) → OneOutcome m K σ c
+  pub alone : ByCallsAlone m K σ h
 
 -- it keeps the promise, whatever history led to the state
 abbrev pub Keeps : {F : Type 0} → Meaning F → ℕ → State → Type 0

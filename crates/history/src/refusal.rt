@@ -1,6 +1,11 @@
-ghost use Rattle.std.specs.Prelude.{◌≡◌};
+ghost use Rattle.std.specs.Prelude.{◌≡◌, ◌++◌, Some, decimal};
+ghost use Rattle.std.specs.Fmt.{DisplaysOnOk};
 ghost use Rattle.history.specs.declared.refusal.Refusal.TheVariants.{Fault};
+ghost use Rattle.history.specs.Lines.{line, reason};
 ghost use Rattle.history.specs.Refusals.{number};
+
+use std::fmt;
+use std::fmt::Display;
 
 /// Why a call is refused.
 #[derive(Drop, Debug)]
@@ -77,4 +82,49 @@ impl<F> Refusal<F> {
             Refusal::AskOutside => 80,
         }
     }
+}
+
+impl<F: Display> fmt::Display for Refusal<F> {
+    ghost output = { λ r. line F.Display.output r };
+
+    fn fmt<W: fmt::Write>(&self, f: &mut fmt::Formatter<W>) -> fmt::Result {
+        let number = self.number();
+        match self {
+            Refusal::NotResting => explain(f, number, "a draft is open"),
+            Refusal::NotClaiming => explain(f, number, "no draft takes claims"),
+            Refusal::ClaimOutside => explain(f, number, "the chart has not both sections"),
+            Refusal::ClaimApart => explain(f, number, "the pair is apart"),
+            Refusal::ClaimedTwice => explain(f, number, "the draft has a claim for the pair"),
+            Refusal::ClaimValue => explain(
+                f,
+                number,
+                "the value is looser than the entry, or above the top",
+            ),
+            Refusal::CloseNotClaiming => explain(f, number, "no draft takes claims"),
+            Refusal::NoClaims => explain(f, number, "the draft has no claims"),
+            Refusal::NotShowing => explain(f, number, "no draft takes showings"),
+            Refusal::ShowOutside => explain(f, number, "the chart has not both sections"),
+            Refusal::NoClaim => explain(f, number, "the draft has no claim for the pair"),
+            Refusal::ShownAlready => explain(f, number, "the claim is shown already"),
+            Refusal::Fault(fault) => write!(f, "{number} {fault}"),
+            Refusal::Bound(c) => write!(
+                f,
+                "{number} {c} (the strongest claim that is shown is {c})"
+            ),
+            Refusal::EnterNotShowing => explain(f, number, "no draft takes showings"),
+            Refusal::Unshown(s, t) => write!(
+                f,
+                "{number} {s} {t} (the claim for sections {s} and {t} is not shown)"
+            ),
+            Refusal::Resting => explain(f, number, "no draft is open"),
+            Refusal::AskOutside => explain(f, number, "the chart has not both sections"),
+        }
+    }
+}
+
+/// Writes a number and what is wrong, in words.
+fn explain<W: fmt::Write>(f: &mut fmt::Formatter<W>, number: u16, words: &str) -> fmt::Result
+    ensures { DisplaysOnOk W.Write.write_str_gives f.old result (Some (decimal number ++ reason words.now)) f.new }
+{
+    write!(f, "{number} ({words})")
 }
