@@ -1,0 +1,5 @@
+pub mod States
+pub mod Values
+pub mod Steps
+pub mod Idle
+pub mod Playing

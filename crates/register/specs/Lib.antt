@@ -1,0 +1,5 @@
+pub mod Tables
+pub mod Phases
+pub mod Calls
+pub mod Held
+pub mod Settling
