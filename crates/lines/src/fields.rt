@@ -22,7 +22,7 @@ fn run_len(bytes: &[u8], blanks: bool) -> usize
 }
 
 /// The first field, and what follows it.
-pub(crate) fn split_field(bytes: &[u8]) -> Option<(&[u8], &[u8])>
+pub fn split_field(bytes: &[u8]) -> Option<(&[u8], &[u8])>
     ensures { MatchOption result (fields bytes.now ≡ []) (λ p. (fields bytes.now ≡ p.0.now ∷ fields p.1.now) × (length p.1.now < length bytes.now)) }
 {
     let (_, rest) = bytes.split_at(run_len(bytes, true));

@@ -7,7 +7,7 @@
 #![tactic(auto)]
 
 pub mod command;
-mod fields;
+pub mod fields;
 pub mod line;
 pub mod malformed;
 pub mod numerals;

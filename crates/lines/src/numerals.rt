@@ -29,7 +29,7 @@ pub fn read_number(field: &[u8]) -> Option<u32>
 }
 
 /// The word that a field writes.
-pub(crate) fn read_word(field: &[u8]) -> Option<i32>
+pub fn read_word(field: &[u8]) -> Option<i32>
     ensures { result ≡ word_of field.now }
 {
     match field {

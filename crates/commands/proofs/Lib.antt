@@ -1,0 +1,3 @@
+pub mod Comments
+pub mod Tails
+pub mod Words

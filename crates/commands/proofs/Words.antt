@@ -1,0 +1,31 @@
+-- The words of a line, one after the other.
+use Rattle.std.proofs.Common.{◌≡◌, ℕ, ◌+◌, List, [], ◌∷◌, ◌++◌, ℤ, Some, None, Ok, Err, Result, refl, ap, append_assoc, append-nil}
+use Rattle.commands.specs.declared.malformed.Malformed.{Malformed}
+use Rattle.commands.specs.declared.malformed.Malformed.TheVariants.{NotAWord}
+use Rattle.lines.specs.Numerals.{word_of}
+use Rattle.commands.specs.Reading.{◌then◌, words_from}
+
+-- the words that were read, and then those that are left to read
+abbrev pub onto : List ℤ → Result (List ℤ) Malformed → Result (List ℤ) Malformed
+onto ws r = r then λ vs. Ok (ws ++ vs)
+
+pub onto_none : (ws : List ℤ) → ws ≡ [] → (r : Result (List ℤ) Malformed) → onto ws r ≡ r
+onto_none ws e (Ok vs) = rw e refl
+onto_none ws e (Err x) = refl
+
+onto_push : (ws : List ℤ) (w : ℤ) (r : Result (List ℤ) Malformed) → onto (ws ++ w ∷ []) r ≡ onto ws (r then λ vs. Ok (w ∷ vs))
+onto_push ws w (Ok vs) = ap Ok (append_assoc ws (w ∷ []) vs)
+onto_push ws w (Err x) = refl
+
+module _ (ws : List ℤ) (k : ℕ) (fs : List (List ℕ)) where
+  pub words_more : (f : List ℕ) (rest : List (List ℕ)) (w : ℤ) → fs ≡ f ∷ rest → word_of f ≡ Some w → onto (ws ++ w ∷ []) (words_from (k + 1) rest) ≡ onto ws (words_from k fs)
+  unfolding words_from
+  words_more f rest w e is = rw (e, is) (onto_push ws w (words_from (k + 1) rest))
+
+  pub words_wrong : (f : List ℕ) (rest : List (List ℕ)) → fs ≡ f ∷ rest → word_of f ≡ None → onto ws (words_from k fs) ≡ Err (NotAWord k)
+  unfolding words_from
+  words_wrong f rest e is = rw (e, is) refl
+
+  pub words_all : fs ≡ [] → onto ws (words_from k fs) ≡ Ok ws
+  unfolding words_from
+  words_all e = rw e (ap Ok (append-nil ws))

@@ -1,0 +1,3 @@
+pub mod Outcomes
+pub mod Playing
+pub mod Lines
