@@ -1,7 +1,7 @@
 #!/usr/bin/env python3
 """Runs the program on charts and lines at the edges of what it takes, and on what it must refuse.
 
-    python3 tests/run.py target/bin/settle
+    python3 tests/run.py crates/settle/out/settle
 
 Each case has a chart file's bytes, the top, the lines, and what the program must write and how it must end.
 """
