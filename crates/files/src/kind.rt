@@ -1,5 +1,5 @@
 ghost use Rattle.std.specs.Prelude.{◌≡◌, ◌≤◌};
-ghost use Rattle.files.specs.Kinds.{code as code_of_lem, whole_allowed, route_bytes};
+ghost use Rattle.files.specs.Kinds.{code as code_of, whole_allowed, route_bytes};
 
 /// The kinds of chart that a file can hold.
 #[derive(Clone, Copy, PartialEq, Eq, Debug)]
@@ -11,7 +11,7 @@ pub enum Kind {
 impl Kind {
     /// The number by which a file names the kind.
     pub(crate) fn code(self) -> u16
-        ensures { result ≡ code_of_lem self }
+        ensures { result ≡ code_of self }
     {
         match self {
             Kind::Weighted => 1,
