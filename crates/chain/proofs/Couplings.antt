@@ -1,8 +1,9 @@
 -- Couplings: a pairing spells one, two rows have a product, and each bounds what potentials show.
-use Rattle.std.proofs.Common.{◌≡◌, ℕ, ◌+◌, ◌*◌, ◌<◌, ◌≤◌, Bool, true, false, cond, eqb, List, ℤ, pos, ◌+ℤ◌, ◌*ℤ◌, sym, refl, ap, ◌∙◌, ⊎_elim, le_refl, mul_assoc, mul_comm, mul-le-mul_left, mul-pos, one-mul, mul-zero, zero-mul, mul-add, mul_left_comm, arith}
+use Rattle.std.proofs.Common.{◌≡◌, ℕ, ◌+◌, ◌*◌, ◌<◌, ◌≤◌, cond, eqb, List, ℤ, pos, ◌+ℤ◌, ◌*ℤ◌, sym, ap, ◌∙◌, ⊎_elim, le_refl, mul_assoc, mul_comm, mul-le-mul_left, mul-pos, one-mul, mul-add, arith}
 use native.Mathlib.Nat.{le_of_mul-le-mul_left}
 use borrow.Author.Differences.{up, down, sum_is_lem, product_is, le_out}
-use Rattle.std.proofs.lemmas.Bool.{cases_eq, cases_lt, cond-false, ne_eqb}
+use Rattle.std.proofs.lemmas.Bool.{cases_lt}
+use Rattle.std.proofs.lemmas.Bool.Decides.{nat_tests}
 use Rattle.finite.specs.Sums.{sum, sumℤ}
 use Rattle.finite.proofs.Sums.{sum_same, sum_le, sum_add, sum_mul, sum_mul_right, sum_swap, sum_places, term_le_sum, sumℤ_parts}
 use Rattle.chart.specs.Distances.{Distances}
@@ -11,43 +12,25 @@ use Rattle.chain.specs.Chain.{Chain, Sound}
 use Rattle.chain.specs.Pairing.{left, right, amount, triples, cost, Pairing, PairingShows}
 use Rattle.chain.specs.Potentials.{alpha, beta, gain, Potentials, PotentialsShow}
 use Rattle.chain.specs.Coupling.{Coupling, total, MeanAtMost, CouplingsBoundPotentials}
-use Rattle.chain.proofs.Words.{natural}
+use Rattle.chain.proofs.Words.{up_most}
 
 -- the amounts of triples x j, y j, a j at (u, v)
-abbrev cell : ℕ → (ℕ → ℕ) → (ℕ → ℕ) → (ℕ → ℕ) → ℕ → ℕ → ℕ
+abbrev pub cell : ℕ → (ℕ → ℕ) → (ℕ → ℕ) → (ℕ → ℕ) → ℕ → ℕ → ℕ
 cell m x y a u v = sum m (λ j. cond (eqb (y j) v) (cond (eqb (x j) u) (a j) 0) 0)
 
-cond_swap : (p q : Bool) (a : ℕ) → cond p (cond q a 0) 0 ≡ cond q (cond p a 0) 0
-cond_swap true q a = refl
-cond_swap false true a = refl
-cond_swap false false a = refl
-
-mul_cond : (b : Bool) (x k : ℕ) → cond b x 0 * k ≡ cond b (x * k) 0
-mul_cond true x k = refl
-mul_cond false x k = zero-mul k
-
 module _ (n m : ℕ) (x y a : ℕ → ℕ) (x-in : (j : ℕ) → j < m → x j < n) (y-in : (j : ℕ) → j < m → y j < n) where
-  cell_rows : (u : ℕ) → sum n (λ v. cell m x y a u v) ≡ sum m (λ j. cond (eqb (x j) u) (a j) 0)
+  pub cell_rows : (u : ℕ) → sum n (λ v. cell m x y a u v) ≡ sum m (λ j. cond (eqb (x j) u) (a j) 0)
   cell_rows u = sum_places n m y (λ j. cond (eqb (x j) u) (a j) 0) y-in
 
-  cell_columns : (v : ℕ) → sum n (λ u. cell m x y a u v) ≡ sum m (λ j. cond (eqb (y j) v) (a j) 0)
+  pub cell_columns : (v : ℕ) → sum n (λ u. cell m x y a u v) ≡ sum m (λ j. cond (eqb (y j) v) (a j) 0)
   cell_columns v =
-      sum_same n _ _ (λ u l. sum_same m _ _ (λ j k. cond_swap (eqb (y j) v) (eqb (x j) u) (a j)))
+      sum_same n _ _ (λ u l. sum_same m _ _ (λ j k. grind arith))
       ∙ sum_places n m x (λ j. cond (eqb (y j) v) (a j) 0) x-in
-
-  at_place : (w : ℕ → ℕ) (i u k : ℕ) → cond (eqb i u) (k * w u) 0 ≡ cond (eqb i u) (k * w i) 0
-  at_place w i u k =
-      ⊎_elim (λ e. ap (λ z. cond (eqb i u) (k * w z) 0) (sym e)) (λ d. cond-false _ _ _ (ne_eqb i u d) ∙ sym (cond-false _ _ _ (ne_eqb i u d))) (cases_eq i u)
 
   cell_weighed : (w : ℕ → ℕ → ℕ) (u v : ℕ) → cell m x y a u v * w u v ≡ sum m (λ j. cond (eqb (y j) v) (cond (eqb (x j) u) (a j * w (x j) (y j)) 0) 0)
   cell_weighed w u v =
       sym (sum_mul_right m (w u v) (λ j. cond (eqb (y j) v) (cond (eqb (x j) u) (a j) 0) 0))
-      ∙ sum_same m _ _ (λ j l.
-      mul_cond (eqb (y j) v) (cond (eqb (x j) u) (a j) 0) (w u v)
-      ∙ ⊎_elim
-      (λ e. ap (λ z. cond (eqb (y j) v) z 0) (mul_cond (eqb (x j) u) (a j) (w u v) ∙ at_place (λ z. w z v) (x j) u (a j) ∙ ap (λ z. cond (eqb (x j) u) (a j * w (x j) z) 0) (sym e)))
-      (λ d. cond-false _ _ _ (ne_eqb (y j) v d) ∙ sym (cond-false _ _ _ (ne_eqb (y j) v d)))
-      (cases_eq (y j) v))
+      ∙ sum_same m _ _ (λ j l. grind (arith, nat_tests))
 
   -- the matrix weighed by w is the triples weighed by it
   cell_total : (w : ℕ → ℕ → ℕ) → sum n (λ u. sum n (λ v. cell m x y a u v * w u v)) ≡ sum m (λ j. a j * w (x j) (y j))
@@ -57,13 +40,13 @@ module _ (n m : ℕ) (x y a : ℕ → ℕ) (x-in : (j : ℕ) → j < m → x j <
 
 module _ (c : Chain) (s t : ℕ) (ws : List ℤ) (p : Pairing c s t ws) where
   pub left_in : (j : ℕ) → j < triples ws → left ws j < c.n
-  left_in j l = omega (arith, p.judged.first_in, natural 0 _ _ (p.left_word j l))
+  left_in j l = omega (arith, p.judged.first_in, up_most _ _ (p.left_word j l).1)
 
   pub right_in : (j : ℕ) → j < triples ws → right ws j < c.n
-  right_in j l = omega (arith, p.judged.first_in, natural 0 _ _ (p.right_word j l))
+  right_in j l = omega (arith, p.judged.first_in, up_most _ _ (p.right_word j l).1)
 
   -- a pairing is a coupling
-  pub spelled : Coupling c s t
+  abbrev pub spelled : Coupling c s t
   spelled = record {
     times = 1;
     amounts = cell (triples ws) (left ws) (right ws) (amount ws);
@@ -73,16 +56,10 @@ module _ (c : Chain) (s t : ℕ) (ws : List ℤ) (p : Pairing c s t ws) where
   }
 
   pub spelled_total : (d : Distances) → total c spelled d ≡ cost d ws
-  unfolding spelled
   spelled_total d = cell_total c.n (triples ws) (left ws) (right ws) (amount ws) left_in right_in d.entry
-
-  pub spelled_times : spelled.times ≡ 1
-  unfolding spelled
-  spelled_times = refl
 
   -- what the pairing shows is at least the coupling's discounted mean
   pub mean_shown : (d : Distances) (x : ℕ) → PairingShows c d ws x → MeanAtMost c spelled d x
-  unfolding spelled
   mean_shown d x h = rw (spelled_total d, one-mul c.whole) h
 
 module _ (c : Chain) (s t : ℕ) (k : Coupling c s t) where
@@ -100,7 +77,7 @@ module _ (c : Chain) (s t : ℕ) (k : Coupling c s t) where
       let split : sum n (λ u. sum n (λ v. k.amounts u v * (x u + y v))) ≡ sum n (λ u. sum n (λ v. k.amounts u v * x u)) + sum n (λ u. sum n (λ v. k.amounts u v * y v))
       = sum_same n _ _ (λ u l. sum_same n _ _ (λ v j. mul-add (k.amounts u v) (x u) (y v)) ∙ sum_add n (λ v. k.amounts u v * x u) (λ v. k.amounts u v * y v))
       ∙ sum_add n (λ u. sum n (λ v. k.amounts u v * x u)) (λ u. sum n (λ v. k.amounts u v * y v)) in
-      omega (arith, rows, columns, split, mul-add k.times (sum n (λ u. c.part s u * x u)) (sum n (λ v. c.part t v * y v)))
+      omega (arith, rows, columns, split)
 
   -- all amounts add up to Q × P
   pub mass : Sound c → s < c.n → sum c.n (λ u. sum c.n (λ v. k.amounts u v)) ≡ k.times * c.whole
@@ -108,10 +85,10 @@ module _ (c : Chain) (s t : ℕ) (k : Coupling c s t) where
 
   -- where a section has no part, it has no amount
   first_none : (u v : ℕ) → u < c.n → v < c.n → c.part s u ≡ 0 → k.amounts u v ≡ 0
-  first_none u v lu lv e = omega (arith, term_le_sum c.n (λ v. k.amounts u v) v lv, k.first_margin u lu, ap (λ z. k.times * z) e, mul-zero k.times)
+  first_none u v lu lv e = omega (arith, term_le_sum c.n (λ v. k.amounts u v) v lv, k.first_margin u lu, ap (λ z. k.times * z) e)
 
   second_none : (u v : ℕ) → u < c.n → v < c.n → c.part t v ≡ 0 → k.amounts u v ≡ 0
-  second_none u v lu lv e = omega (arith, term_le_sum c.n (λ u. k.amounts u v) u lu, k.second_margin v lv, ap (λ z. k.times * z) e, mul-zero k.times)
+  second_none u v lu lv e = omega (arith, term_le_sum c.n (λ u. k.amounts u v) u lu, k.second_margin v lv, ap (λ z. k.times * z) e)
 
   -- the total in one table, against that in another
   pub total_le : Sound c → s < c.n → (l e : Distances) (m : ℕ) → Within c.n l e m → e.top * total c k l ≤ l.top * total c k e + m * (k.times * c.whole)
@@ -120,16 +97,7 @@ module _ (c : Chain) (s t : ℕ) (k : Coupling c s t) where
       let T = e.top in
       let K = l.top in
       let each : (u v : ℕ) → u < n → v < n → T * (k.amounts u v * l.entry u v) ≤ K * (k.amounts u v * e.entry u v) + m * k.amounts u v
-      = λ u v lu lv. omega (
-        arith,
-        mul-le-mul_left (k.amounts u v) (h u v lu lv),
-        mul-add (k.amounts u v) (e.entry u v * K) m,
-        mul_assoc (k.amounts u v) (e.entry u v) K,
-        mul_comm (k.amounts u v * e.entry u v) K,
-        mul_assoc (k.amounts u v) (l.entry u v) T,
-        mul_comm (k.amounts u v * l.entry u v) T,
-        mul_comm (k.amounts u v) m,
-      ) in
+      = λ u v lu lv. omega (arith, mul-le-mul_left (k.amounts u v) (h u v lu lv)) in
       let row : (u : ℕ) → u < n → T * sum n (λ v. k.amounts u v * l.entry u v) ≤ K * sum n (λ v. k.amounts u v * e.entry u v) + m * sum n (λ v. k.amounts u v)
       = λ u lu. omega (
         arith,
@@ -161,10 +129,10 @@ gain_parts c s t ws =
       sum_is_lem (sumℤ c.n f) (sumℤ c.n g),
       sumℤ_parts c.n f,
       sumℤ_parts c.n g,
-      sum_same c.n (λ u. up (f u)) (λ u. c.part s u * up (alpha ws u)) (λ u l. omega (arith, product_is (pos (c.part s u)) (alpha ws u), zero-mul (down (alpha ws u)))),
-      sum_same c.n (λ u. down (f u)) (λ u. c.part s u * down (alpha ws u)) (λ u l. omega (arith, product_is (pos (c.part s u)) (alpha ws u), zero-mul (up (alpha ws u)))),
-      sum_same c.n (λ v. up (g v)) (λ v. c.part t v * up (beta c ws v)) (λ v l. omega (arith, product_is (pos (c.part t v)) (beta c ws v), zero-mul (down (beta c ws v)))),
-      sum_same c.n (λ v. down (g v)) (λ v. c.part t v * down (beta c ws v)) (λ v l. omega (arith, product_is (pos (c.part t v)) (beta c ws v), zero-mul (up (beta c ws v)))),
+      sum_same c.n (λ u. up (f u)) (λ u. c.part s u * up (alpha ws u)) (λ u l. omega (arith, product_is (pos (c.part s u)) (alpha ws u))),
+      sum_same c.n (λ u. down (f u)) (λ u. c.part s u * down (alpha ws u)) (λ u l. omega (arith, product_is (pos (c.part s u)) (alpha ws u))),
+      sum_same c.n (λ v. up (g v)) (λ v. c.part t v * up (beta c ws v)) (λ v l. omega (arith, product_is (pos (c.part t v)) (beta c ws v))),
+      sum_same c.n (λ v. down (g v)) (λ v. c.part t v * down (beta c ws v)) (λ v l. omega (arith, product_is (pos (c.part t v)) (beta c ws v))),
     )
 
 -- Q × S of potentials is at most the total of a coupling in the same table
@@ -176,23 +144,19 @@ gain_le c d s t ws k q =
     let ups : ℕ → ℕ → ℕ = λ u v. up (alpha ws u) + up (beta c ws v) in
     let downs : ℕ → ℕ → ℕ = λ u v. down (alpha ws u) + down (beta c ws v) in
     let nothing : (u v : ℕ) → w u v ≡ 0 → w u v * ups u v ≤ w u v * d.entry u v + w u v * downs u v
-    = λ u v e. omega (arith, ap (λ z. z * ups u v) e, zero-mul (ups u v)) in
+    = λ u v e. omega (arith, ap (λ z. z * ups u v) e) in
     let each : (u v : ℕ) → u < n → v < n → w u v * ups u v ≤ w u v * d.entry u v + w u v * downs u v
     = λ u v lu lv. ⊎_elim
     (λ hu. ⊎_elim
-    (λ hv. omega (
-      arith,
-      mul-le-mul_left (w u v) (let h : ups u v ≤ d.entry u v + downs u v = omega (arith, le_out (alpha ws u +ℤ beta c ws v) (pos (d.entry u v)) (q.under u v lu lv hu hv), sum_is_lem (alpha ws u) (beta c ws v)) in h),
-      mul-add (w u v) (d.entry u v) (downs u v),
-    ))
+    (λ hv.
+    let h : ups u v ≤ d.entry u v + downs u v = omega (arith, le_out (alpha ws u +ℤ beta c ws v) (pos (d.entry u v)) (q.under u v lu lv hu hv), sum_is_lem (alpha ws u) (beta c ws v)) in
+    omega (arith, mul-le-mul_left (w u v) h))
     (λ hv. nothing u v (second_none c s t k u v lu lv (omega arith)))
     (cases_lt 0 (c.part t v)))
     (λ hu. nothing u v (first_none c s t k u v lu lv (omega arith)))
     (cases_lt 0 (c.part s u)) in
     let row : (u : ℕ) → u < n → sum n (λ v. w u v * ups u v) ≤ sum n (λ v. w u v * d.entry u v) + sum n (λ v. w u v * downs u v)
     = λ u lu. omega (arith, sum_le n _ _ (λ v lv. each u v lu lv), sum_add n (λ v. w u v * d.entry u v) (λ v. w u v * downs u v)) in
-    let A = sum n (λ u. c.part s u * up (alpha ws u)) + sum n (λ v. c.part t v * up (beta c ws v)) in
-    let B = sum n (λ u. c.part s u * down (alpha ws u)) + sum n (λ v. c.part t v * down (beta c ws v)) in
     omega (
       arith,
       sum_le n _ _ row,
@@ -200,58 +164,27 @@ gain_le c d s t ws k q =
       exchanged c s t k (λ u. up (alpha ws u)) (λ v. up (beta c ws v)),
       exchanged c s t k (λ u. down (alpha ws u)) (λ v. down (beta c ws v)),
       ap (λ z. k.times * z) (gain_parts c s t ws),
-      mul-add k.times (up (gain c s t ws)) B,
-      mul-add k.times (down (gain c s t ws)) A,
     )
-
-regroup : (x b P y : ℕ) → x * (b * P * y) ≡ P * (b * (y * x))
-regroup x b P y = mul_comm x (b * P * y) ∙ mul_assoc (b * P) y x ∙ ap (λ k. k * (y * x)) (mul_comm b P) ∙ mul_assoc P b (y * x)
 
 -- the numbers alone
 scaled : (a b P K T m l u X S above below : ℕ) → 1 ≤ P
     → b * P * l + a * below ≤ a * above → above ≤ X + below → T * X ≤ K * S + m * P → a * S ≤ b * P * u
     → b * (l * T) ≤ b * (u * K) + a * m
 scaled a b P K T m l u X S above below some shows gap tables shown =
-    let under : b * P * l ≤ a * X = omega (arith, mul-le-mul_left a gap, mul-add a X below) in
-    let times : P * (b * (l * T)) ≤ P * (b * (u * K) + a * m)
-    = omega (
-      arith,
-      regroup T b P l,
-      regroup K b P u,
-      mul-le-mul_left T under,
-      mul_left_comm T a X,
-      mul-le-mul_left a tables,
-      mul-add a (K * S) (m * P),
-      mul_left_comm a K S,
-      mul-le-mul_left K shown,
-      mul_assoc a m P,
-      mul_comm (a * m) P,
-      mul-add P (b * (u * K)) (a * m),
-    ) in
+    let under : b * P * l ≤ a * X = omega (arith, mul-le-mul_left a gap) in
+    let times : P * (b * (l * T)) ≤ P * (b * (u * K) + a * m) = omega (arith, mul-le-mul_left T under, mul-le-mul_left a tables, mul-le-mul_left K shown) in
     le_of_mul-le-mul_left times some
-
--- the same, by Q
-times_shows : (a b P Q l above below : ℕ) → b * P * l + a * below ≤ a * above → b * (Q * P) * l + a * (Q * below) ≤ a * (Q * above)
-times_shows a b P Q l above below h = omega (
-  arith,
-  mul-le-mul_left Q h,
-  mul-add Q (b * P * l) (a * below),
-  mul_left_comm Q a below,
-  mul_left_comm Q a above,
-  sym (mul_assoc Q (b * P) l),
-  ap (λ z. z * l) (mul_left_comm Q b P),
-)
 
 pub potentials_bounded : (c : Chain) → Sound c → (l e : Distances) (s t : ℕ) (ws : List ℤ) (x y m : ℕ) (k : Coupling c s t)
     → Potentials c l s t ws → PotentialsShow c s t ws x → MeanAtMost c k e y → Within c.n l e m
     → c.b * (x * e.top) ≤ c.b * (y * l.top) + c.a * m
 potentials_bounded c sound l e s t ws x y m k q shows mean near =
     ⊎_elim
-    (λ none. omega (arith, ap (λ z. c.b * (z * e.top)) none, ap (λ z. c.b * z) (zero-mul e.top), mul-zero c.b))
+    (λ none. omega (arith, ap (λ z. c.b * (z * e.top)) none))
     (λ some. scaled c.a c.b (k.times * c.whole) l.top e.top m x y (total c k l) (total c k e) (k.times * up (gain c s t ws)) (k.times * down (gain c s t ws))
     (mul-pos {m = k.times} {n = c.whole} k.times_least sound.whole_least)
-    (times_shows c.a c.b c.whole k.times x (up (gain c s t ws)) (down (gain c s t ws))
-    (omega (arith, le_out (pos (c.b * c.whole * x)) (pos c.a *ℤ gain c s t ws) some, product_is (pos c.a) (gain c s t ws), zero-mul (up (gain c s t ws)), zero-mul (down (gain c s t ws)))))
+    (let by_one : c.b * c.whole * x + c.a * down (gain c s t ws) ≤ c.a * up (gain c s t ws) = omega (arith, le_out (pos (c.b * c.whole * x)) (pos c.a *ℤ gain c s t ws) some, product_is (pos c.a) (gain c s t ws)) in
+    omega (arith, mul-le-mul_left k.times by_one))
     (gain_le c l s t ws k q) (total_le c s t k sound q.judged.first_in l e m near) mean)
     shows
 

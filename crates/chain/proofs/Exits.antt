@@ -5,10 +5,10 @@ use Rattle.std.proofs.lemmas.Bool.{eq-eqb, ne_eqb, le-ltb}
 use Rattle.finite.specs.Search.{least}
 use Rattle.chart.specs.Distances.{Distances}
 use Rattle.chain.specs.declared.fault.Fault.{Fault}
-use Rattle.chain.specs.declared.fault.Fault.TheVariants.{Unjudged, PairingCount, FirstMargin, SecondMargin, PotentialsCount, Range, Above}
+use Rattle.chain.specs.declared.fault.Fault.TheVariants.{Unjudged, PairingCount, PotentialsCount, Range, Above}
 use Rattle.chain.specs.Chain.{Chain, unjudged}
 use Rattle.chain.specs.Words.{word, outside}
-use Rattle.chain.specs.Pairing.{left, right, margin, bad_word, word_fault, pairing_fault}
+use Rattle.chain.specs.Pairing.{bad_word, word_fault, pairing_fault}
 use Rattle.chain.specs.Potentials.{above, potentials_fault}
 use Rattle.chain.specs.Meaning.{answer}
 
@@ -29,23 +29,6 @@ module _ (c : Chain) (s t : ℕ) (ws : List ℤ) where
     pub pairing_word : (f : Fault) → option_map word_fault (least (length ws) (bad_word c ws)) ≡ Some f → pairing_fault c s t ws ≡ Some f
     unfolding pairing_fault
     pairing_word f w = simp (j, eq-eqb (length ws % 3) 0 k, le-ltb 3072 (length ws) few, w)
-
-    pub pairing_left : (u : ℕ) → least (length ws) (bad_word c ws) ≡ None
-        → least c.n (λ u. not (eqb (margin left ws u) (c.part s u))) ≡ Some u → pairing_fault c s t ws ≡ Some (FirstMargin u)
-    unfolding pairing_fault
-    pairing_left u w e = simp (j, eq-eqb (length ws % 3) 0 k, le-ltb 3072 (length ws) few, w, e)
-
-    pub pairing_right : (v : ℕ) → least (length ws) (bad_word c ws) ≡ None
-        → least c.n (λ u. not (eqb (margin left ws u) (c.part s u))) ≡ None
-        → least c.n (λ v. not (eqb (margin right ws v) (c.part t v))) ≡ Some v → pairing_fault c s t ws ≡ Some (SecondMargin v)
-    unfolding pairing_fault
-    pairing_right v w e h = simp (j, eq-eqb (length ws % 3) 0 k, le-ltb 3072 (length ws) few, w, e, h)
-
-    pub pairing_valid : least (length ws) (bad_word c ws) ≡ None
-        → least c.n (λ u. not (eqb (margin left ws u) (c.part s u))) ≡ None
-        → least c.n (λ v. not (eqb (margin right ws v) (c.part t v))) ≡ None → pairing_fault c s t ws ≡ None
-    unfolding pairing_fault
-    pairing_valid w e h = simp (j, eq-eqb (length ws % 3) 0 k, le-ltb 3072 (length ws) few, w, e, h)
 
 module _ (c : Chain) (d : Distances) (s t : ℕ) (ws : List ℤ) where
   -- the tests of the words, and of the pairs of successors

@@ -1,7 +1,7 @@
 -- Weighted charts keep every law of a kind, and their supported tables are nowhere raised.
-use Rattle.std.proofs.Common.{◌≡◌, ℕ, ◌*◌, ◌<◌, ◌≤◌, true, List, length, ℤ, pos, ◌*ℤ◌, Some, None, Err, Option, sym, refl, ap, ◌∙◌, inl, inr, ⊎_elim, le_trans, mul_assoc, mul_comm, mul-le-mul, mul-le-mul_left, mul-pos, one-mul, mul-zero, arith}
+use Rattle.std.proofs.Common.{◌≡◌, ℕ, ◌*◌, ◌<◌, ◌≤◌, true, List, length, ℤ, pos, ◌*ℤ◌, Some, None, Err, Option, sym, refl, ap, ◌∙◌, inl, inr, ⊎_elim, le_trans, mul-le-mul, mul-le-mul_left, mul-pos, arith}
 use borrow.Author.Differences.{le_out, at_most_in}
-use Rattle.std.proofs.lemmas.Bool.{cases_Bool, cases_lt, eq-eqb, eqb-true, not-false, not_from_true}
+use Rattle.std.proofs.lemmas.Bool.{true_from_ne_false, cases_lt, eq-eqb, not_from_true}
 use Rattle.finite.specs.Sums.{sum}
 use Rattle.finite.proofs.Sums.{sum_le, sum_mul}
 use Rattle.chart.specs.declared.side.Side.{Side}
@@ -19,7 +19,7 @@ use Rattle.chain.specs.Meaning.{Valid, Shows, answer, weighed, means}
 use Rattle.chain.specs.Coupling.{Coupling, total, MeanAtMost, SupportedIsNowhereRaised}
 use Rattle.chain.proofs.Valid.{judges_from, pairing_from, pairing_to, potentials_from, potentials_to}
 use Rattle.chain.proofs.Claims.{least_shown, greatest_shown}
-use Rattle.chain.proofs.Couplings.{left_in, right_in, spelled, spelled_total, spelled_times, mean_shown, product, mass, potentials_bounded}
+use Rattle.chain.proofs.Couplings.{left_in, right_in, spelled, spelled_total, mean_shown, product, mass, potentials_bounded}
 use Rattle.chain.proofs.Diagonal.{itself}
 
 module _ (c : Chain) (sound : Sound c) where
@@ -29,15 +29,12 @@ module _ (c : Chain) (sound : Sound c) where
   weighs : (side : Side) (d : Distances) (s t : ℕ) (ws : List ℤ) → Weighs side (Valid c side d s t ws) (Shows c side d s t ws) (weighed c side d s t ws)
   weighs Upper d s t ws = by (pairing_fault c s t ws) refl where
     by : (o : Option Fault) → pairing_fault c s t ws ≡ o → Weighs Upper (Pairing c s t ws) (PairingShows c d ws) (answer o (least_claim c (cost d ws)))
-    by (Some f) e = λ v. let same = sym (pairing_to c s t ws v) ∙ e in let z : ◌≡◌ {A = ℕ} 0 1 = cc in omega arith
+    by (Some f) e = λ v. cc (sym (pairing_to c s t ws v) ∙ e)
     by None e = (pairing_from c s t ws e, least_shown c.a (c.b * c.whole) scale_some (cost d ws))
   weighs Lower d s t ws = by (potentials_fault c d s t ws) refl where
     by : (o : Option Fault) → potentials_fault c d s t ws ≡ o → Weighs Lower (Potentials c d s t ws) (PotentialsShow c s t ws) (answer o (greatest_claim c (gain c s t ws)))
-    by (Some f) e = λ v. let same = sym (potentials_to c d s t ws v) ∙ e in let z : ◌≡◌ {A = ℕ} 0 1 = cc in omega arith
+    by (Some f) e = λ v. cc (sym (potentials_to c d s t ws v) ∙ e)
     by None e = (potentials_from c d s t ws e, greatest_shown c.a (c.b * c.whole) scale_some (gain c s t ws))
-
-  judges_of : (s t : ℕ) → Judged (means c) s t → Judges c s t
-  judges_of s t j = record { first_in = j.first_in; second_in = j.second_in; alike = eqb-true _ _ (not-false _ j.together) }
 
   judged_of : (s t : ℕ) → Judges c s t → Judged (means c) s t
   judged_of s t j = record { first_in = j.first_in; second_in = j.second_in; together = not_from_true _ (eq-eqb _ _ j.alike) }
@@ -48,7 +45,7 @@ module _ (c : Chain) (sound : Sound c) where
   outside_first Lower d s t ws e = rw e
 
   is_unjudged : (s t : ℕ) → (Judged (means c) s t → ⊥) → unjudged c s t ≡ true
-  is_unjudged s t h = ⊎_elim (λ e. e) (λ e. absurd (h (judged_of s t (judges_from c s t e)))) (cases_Bool (unjudged c s t))
+  is_unjudged s t h = true_from_ne_false (unjudged c s t) (λ e. h (judged_of s t (judges_from c s t e)))
 
   short : (side : Side) (d : Distances) (s t : ℕ) (ws : List ℤ) → Valid c side d s t ws → length ws ≤ 3072
   short Upper d s t ws v = v.few
@@ -97,7 +94,7 @@ module _ (c : Chain) (sound : Sound c) where
     self_judged = λ s. not_from_true _ (eq-eqb (c.band s) (c.band s) refl);
     self_paired = λ s l.
         let i = itself c sound s l in
-        (i.words, i.fit, λ d zeros. record { valid = i.valid; shows = omega (arith, ap (λ r. c.a * r) (i.free d zeros), mul-zero c.a) });
+        (i.words, i.fit, λ d zeros. record { valid = i.valid; shows = omega (arith, ap (λ r. c.a * r) (i.free d zeros)) });
     closed = closed;
     monotone = monotone;
     cross = λ l e s t potentials pairing x y k some lower upper near.
@@ -111,20 +108,20 @@ module _ (c : Chain) (sound : Sound c) where
       let row : (u : ℕ) → u < n → sum n (λ v. k.amounts u v * d.entry u v) ≤ d.top * sum n (λ v. k.amounts u v)
       = λ u lu. omega (
         arith,
-        sum_le n (λ v. k.amounts u v * d.entry u v) (λ v. d.top * k.amounts u v) (λ v lv. omega (arith, mul-le-mul_left (k.amounts u v) (bounded u v lu lv), mul_comm (k.amounts u v) d.top)),
+        sum_le n (λ v. k.amounts u v * d.entry u v) (λ v. d.top * k.amounts u v) (λ v lv. omega (arith, mul-le-mul_left (k.amounts u v) (bounded u v lu lv))),
         sum_mul n d.top (λ v. k.amounts u v),
       ) in
-      omega (arith, sum_le n _ _ row, sum_mul n d.top (λ u. sum n (λ v. k.amounts u v)), ap (λ z. d.top * z) (mass c s t k sound l), mul_comm d.top (k.times * c.whole))
+      omega (arith, sum_le n _ _ row, sum_mul n d.top (λ u. sum n (λ v. k.amounts u v)), ap (λ z. d.top * z) (mass c s t k sound l))
 
   mean_top : (d : Distances) (s t : ℕ) (k : Coupling c s t) → s < c.n → ((u v : ℕ) → u < c.n → v < c.n → d.entry u v ≤ d.top) → MeanAtMost c k d d.top
   mean_top d s t k l bounded =
       let small : c.a ≤ c.b = omega (arith, sound.a_most) in
-      omega (arith, mul-le-mul small (total_most d s t k l bounded), mul_assoc c.b (k.times * c.whole) d.top)
+      omega (arith, mul-le-mul small (total_most d s t k l bounded))
 
   pub cost_most : (d : Distances) (s t : ℕ) (ws : List ℤ) → Pairing c s t ws → ((u v : ℕ) → u < c.n → v < c.n → d.entry u v ≤ d.top) → cost d ws ≤ c.whole * d.top
   cost_most d s t ws v bounded =
       rw (← spelled_total c s t ws v d)
-      (omega (arith, total_most d s t (spelled c s t ws v) v.judged.first_in bounded, ap (λ q. q * c.whole * d.top) (spelled_times c s t ws v), ap (λ z. z * d.top) (one-mul c.whole)))
+      (omega (arith, total_most d s t (spelled c s t ws v) v.judged.first_in bounded))
 
   pub nowhere_raised : SupportedIsNowhereRaised c
   nowhere_raised d sup = record {

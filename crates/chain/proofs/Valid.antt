@@ -1,46 +1,25 @@
 -- A showing has no fault exactly if it is valid.
-use Rattle.std.proofs.Common.{◌≡◌, ℕ, zero, suc, ◌+◌, ◌-◌, ◌*◌, ◌/◌, ◌%◌, ◌<◌, ◌≤◌, true, false, not, ◌&&◌, ◌||◌, eqb, ltb, List, length, ℤ, pos, ◌+ℤ◌, neg_ℤ, ◌≤ℤ◌, ◌<ℤ◌, None, sym, refl, ◌∙◌, ⊎_elim, arith}
-use lib.Signed.{lt_z}
-use borrow.Author.Differences.{lt-false, false_is_lt, true_is_lt, lt_out, le_out, at_most_in}
+use Rattle.std.proofs.Common.{◌≡◌, ℕ, zero, suc, ◌+◌, ◌-◌, ◌*◌, ◌/◌, ◌%◌, ◌<◌, false, not, ◌||◌, eqb, ltb, List, length, ℤ, pos, ◌+ℤ◌, neg_ℤ, None, refl, ◌∙◌, arith}
+use borrow.Author.Differences.{lt-false, false_is_lt, le_out, at_most_in}
 use Rattle.std.specs.Option.{option_map}
-use Rattle.std.proofs.lemmas.Bool.{cases_lt, or_parts, not-false, eqb-true, eq-eqb, not_from_true, ltb-true, ltb-false, lt-ltb, le-ltb, cond-true, cond-false, and_left, and_right}
+use Rattle.std.proofs.lemmas.Bool.{false_from_ne_true, not-false, eqb-true, eq-eqb, not_from_true, lt-ltb, le-ltb, cond-true, cond-false}
 use Rattle.std.proofs.lemmas.Nat.{div-mul-add, mod-mul-add, mul-add-lt, div_below, mod_below}
+use Rattle.std.proofs.lemmas.Bool.Decides.{nat_tests}
 use Rattle.finite.specs.Search.{given, least}
 use Rattle.finite.proofs.Search.{first_of_none, given_none, mapped_none, least_none_at, least_none}
 use Rattle.chart.specs.Distances.{Distances}
 use Rattle.chain.specs.declared.fault.Fault.TheVariants.{Unjudged, PairingCount, FirstMargin, SecondMargin, PotentialsCount, Range, Above}
 use Rattle.chain.specs.Chain.{Chain, Judges, unjudged}
-use Rattle.chain.specs.Words.{word, Between, outside}
+use Rattle.chain.specs.Words.{word, outside}
 use Rattle.chain.specs.Pairing.{left, right, margin, Pairing, bad_word, word_fault, pairing_fault}
 use Rattle.chain.specs.Potentials.{alpha, beta, above, Potentials, potentials_fault}
 use Rattle.chain.proofs.Words.{between_outside, outside_between}
 
 pub judges_from : (c : Chain) (s t : ℕ) → unjudged c s t ≡ false → Judges c s t
-judges_from c s t e =
-    let p = or_parts _ _ e in
-    let q = or_parts _ _ p.1 in
-    record {
-      first_in = ltb-true s c.n (not-false _ p.0);
-      second_in = ltb-true t c.n (not-false _ q.0);
-      alike = eqb-true _ _ (not-false _ q.1);
-    }
+judges_from c s t e = record { first_in = grind (arith, nat_tests); second_in = grind (arith, nat_tests); alike = grind (arith, nat_tests) }
 
 pub judges_to : (c : Chain) (s t : ℕ) → Judges c s t → unjudged c s t ≡ false
 judges_to c s t j = rw (lt-ltb s c.n j.first_in, lt-ltb t c.n j.second_in, eq-eqb (c.band s) (c.band t) j.alike)
-
--- the words of a pairing, place by place
-module _ (c : Chain) (ws : List ℤ) where
-  pub section_good : (i : ℕ) → i % 3 < 2 → bad_word c ws i ≡ false → Between (pos 0) (pos (c.n - 1)) (word ws i)
-  section_good i l e = outside_between (pos 0) (pos (c.n - 1)) (word ws i) (sym (cond-true _ _ _ (lt-ltb (i % 3) 2 l)) ∙ e)
-
-  pub amount_good : (i : ℕ) → 2 ≤ i % 3 → bad_word c ws i ≡ false → Between (pos 1) (pos c.whole) (word ws i)
-  amount_good i l e = outside_between (pos 1) (pos c.whole) (word ws i) (sym (cond-false _ _ _ (le-ltb (i % 3) 2 l)) ∙ e)
-
-  pub good_section : (i : ℕ) → i % 3 < 2 → Between (pos 0) (pos (c.n - 1)) (word ws i) → bad_word c ws i ≡ false
-  good_section i l h = cond-true _ _ _ (lt-ltb (i % 3) 2 l) ∙ between_outside (pos 0) (pos (c.n - 1)) (word ws i) h
-
-  pub good_amount : (i : ℕ) → 2 ≤ i % 3 → Between (pos 1) (pos c.whole) (word ws i) → bad_word c ws i ≡ false
-  good_amount i l h = cond-false _ _ _ (le-ltb (i % 3) 2 l) ∙ between_outside (pos 1) (pos c.whole) (word ws i) h
 
 pub pairing_from : (c : Chain) (s t : ℕ) (ws : List ℤ) → pairing_fault c s t ws ≡ None → Pairing c s t ws
 unfolding pairing_fault
@@ -50,16 +29,16 @@ pairing_from c s t ws e =
     let p2 = first_of_none (option_map word_fault (least (length ws) (bad_word c ws))) _ p1.1 in
     let p3 = first_of_none (option_map FirstMargin (least c.n (λ u. not (eqb (margin left ws u) (c.part s u))))) _ p2.1 in
     let p4 = first_of_none (option_map SecondMargin (least c.n (λ v. not (eqb (margin right ws v) (c.part t v))))) _ p3.1 in
-    let count = or_parts _ _ (given_none _ _ p1.0) in
-    let threes : length ws % 3 ≡ 0 = eqb-true _ _ (not-false _ count.0) in
+    let count = given_none _ _ p1.0 in
+    let threes : length ws % 3 ≡ 0 = grind (arith, nat_tests) in
     let words = least_none_at (length ws) (bad_word c ws) (mapped_none word_fault _ p2.0) in
     record {
       judged = judges_from c s t (given_none _ _ p0.0);
       threes = threes;
-      few = ltb-false _ _ count.1;
-      left_word = λ j l. section_good c ws (3 * j) (omega arith) (words (3 * j) (omega arith));
-      right_word = λ j l. section_good c ws (3 * j + 1) (omega arith) (words (3 * j + 1) (omega arith));
-      amount_word = λ j l. amount_good c ws (3 * j + 2) (omega arith) (words (3 * j + 2) (omega arith));
+      few = grind (arith, nat_tests);
+      left_word = λ j l. let e = words (3 * j) (omega arith) in outside_between (pos 0) (pos (c.n - 1)) (word ws (3 * j)) (grind (arith, nat_tests));
+      right_word = λ j l. let e = words (3 * j + 1) (omega arith) in outside_between (pos 0) (pos (c.n - 1)) (word ws (3 * j + 1)) (grind (arith, nat_tests));
+      amount_word = λ j l. let e = words (3 * j + 2) (omega arith) in outside_between (pos 1) (pos c.whole) (word ws (3 * j + 2)) (grind (arith, nat_tests));
       left_margin = λ u l. eqb-true _ _ (not-false _ (least_none_at c.n (λ u. not (eqb (margin left ws u) (c.part s u))) (mapped_none FirstMargin _ p3.0) u l));
       right_margin = λ v l. eqb-true _ _ (not-false _ (least_none_at c.n (λ v. not (eqb (margin right ws v) (c.part t v))) (mapped_none SecondMargin _ p4.0) v l));
     }
@@ -69,13 +48,13 @@ words_good c s t ws p i l = by (i % 3) refl where
   by : (k : ℕ) → i % 3 ≡ k → bad_word c ws i ≡ false
   by zero e =
       let at : 3 * (i / 3) ≡ i = omega arith in
-      good_section c ws i (omega arith) (rw at at (p.left_word (i / 3) (omega (arith, p.threes))))
+      cond-true _ _ _ (lt-ltb (i % 3) 2 (omega arith)) ∙ between_outside (pos 0) (pos (c.n - 1)) (word ws i) (rw at at (p.left_word (i / 3) (omega (arith, p.threes))))
   by (suc zero) e =
       let at : 3 * (i / 3) + 1 ≡ i = omega arith in
-      good_section c ws i (omega arith) (rw at at (p.right_word (i / 3) (omega (arith, p.threes))))
+      cond-true _ _ _ (lt-ltb (i % 3) 2 (omega arith)) ∙ between_outside (pos 0) (pos (c.n - 1)) (word ws i) (rw at at (p.right_word (i / 3) (omega (arith, p.threes))))
   by (suc (suc k)) e =
       let at : 3 * (i / 3) + 2 ≡ i = omega arith in
-      good_amount c ws i (omega arith) (rw at at (p.amount_word (i / 3) (omega (arith, p.threes))))
+      cond-false _ _ _ (le-ltb (i % 3) 2 (omega arith)) ∙ between_outside (pos 1) (pos c.whole) (word ws i) (rw at at (p.amount_word (i / 3) (omega (arith, p.threes))))
 
 pub pairing_to : (c : Chain) (s t : ℕ) (ws : List ℤ) → Pairing c s t ws → pairing_fault c s t ws ≡ None
 unfolding pairing_fault
@@ -90,20 +69,8 @@ pairing_to c s t ws p =
     )
 
 module _ (c : Chain) (d : Distances) (s t : ℕ) (ws : List ℤ) where
-  above_under : (u v : ℕ) → above c d s t ws u v ≡ false → 0 < c.part s u → 0 < c.part t v → (alpha ws u +ℤ beta c ws v) ≤ℤ pos (d.entry u v)
-  above_under u v e hu hv =
-      let e1 : (ltb 0 (c.part t v) && lt_z (pos (d.entry u v)) (alpha ws u +ℤ beta c ws v)) ≡ false = rw (lt-ltb 0 (c.part s u) hu) at e in
-      let e2 : lt_z (pos (d.entry u v)) (alpha ws u +ℤ beta c ws v) ≡ false = rw (lt-ltb 0 (c.part t v) hv) at e1 in
-      at_most_in (alpha ws u +ℤ beta c ws v) (pos (d.entry u v)) (lt-false (pos (d.entry u v)) (alpha ws u +ℤ beta c ws v) e2)
-
-  pub above_flat : (u v : ℕ) → (alpha ws u +ℤ beta c ws v) ≤ℤ pos (d.entry u v) → above c d s t ws u v ≡ false
-  above_flat u v h = and_right (ltb 0 (c.part s u)) _ (and_right (ltb 0 (c.part t v)) _ (sym (false_is_lt (pos (d.entry u v)) (alpha ws u +ℤ beta c ws v) (le_out (alpha ws u +ℤ beta c ws v) (pos (d.entry u v)) h))))
-
   pub above_first : (u v : ℕ) → c.part s u ≡ 0 → above c d s t ws u v ≡ false
-  above_first u v h = and_left (ltb 0 (c.part s u)) _ (le-ltb 0 (c.part s u) (omega arith))
-
-  pub above_second : (u v : ℕ) → c.part t v ≡ 0 → above c d s t ws u v ≡ false
-  above_second u v h = and_right (ltb 0 (c.part s u)) _ (and_left (ltb 0 (c.part t v)) _ (le-ltb 0 (c.part t v) (omega arith)))
+  above_first u v h = grind (arith, nat_tests)
 
   pub potentials_from : potentials_fault c d s t ws ≡ None → Potentials c d s t ws
   unfolding potentials_fault
@@ -118,15 +85,17 @@ module _ (c : Chain) (d : Distances) (s t : ℕ) (ws : List ℤ) where
         judged = judges_from c s t (given_none _ _ p0.0);
         count = count;
         range = λ i l. outside_between (neg_ℤ (pos d.top)) (pos d.top) (word ws i) (least_none_at (length ws) (λ i. outside (neg_ℤ (pos d.top)) (pos d.top) (word ws i)) (mapped_none Range _ p2.0) i (omega arith));
-        under = λ u v lu lv hu hv. above_under u v (rw (div-mul-add u c.n v lv, mod-mul-add u c.n v lv) at (clear (u * c.n + v) (mul-add-lt u c.n v c.n lu lv))) hu hv;
+        under = λ u v lu lv hu hv.
+            let flat = rw (div-mul-add u c.n v lv, mod-mul-add u c.n v lv) at (clear (u * c.n + v) (mul-add-lt u c.n v c.n lu lv)) in
+            at_most_in (alpha ws u +ℤ beta c ws v) (pos (d.entry u v)) (lt-false (pos (d.entry u v)) (alpha ws u +ℤ beta c ws v) (grind (arith, nat_tests)));
       }
 
   not_above : Potentials c d s t ws → (u v : ℕ) → u < c.n → v < c.n → above c d s t ws u v ≡ false
-  not_above p u v lu lv =
-      ⊎_elim
-      (λ hu. ⊎_elim (λ hv. above_flat u v (p.under u v lu lv hu hv)) (λ hv. above_second u v (omega arith)) (cases_lt 0 (c.part t v)))
-      (λ hu. above_first u v (omega arith))
-      (cases_lt 0 (c.part s u))
+  not_above p u v lu lv = false_from_ne_true (above c d s t ws u v) (λ e.
+      let hu : 0 < c.part s u = grind (arith, nat_tests) in
+      let hv : 0 < c.part t v = grind (arith, nat_tests) in
+      let low = false_is_lt (pos (d.entry u v)) (alpha ws u +ℤ beta c ws v) (le_out (alpha ws u +ℤ beta c ws v) (pos (d.entry u v)) (p.under u v lu lv hu hv)) in
+      grind (arith, nat_tests))
 
   pub potentials_to : Potentials c d s t ws → potentials_fault c d s t ws ≡ None
   unfolding potentials_fault
@@ -138,6 +107,3 @@ module _ (c : Chain) (d : Distances) (s t : ℕ) (ws : List ℤ) where
         least_none (length ws) (λ i. outside (neg_ℤ (pos d.top)) (pos d.top) (word ws i)) (λ i l. between_outside (neg_ℤ (pos d.top)) (pos d.top) (word ws i) (p.range i (omega (arith, p.count)))),
         least_none (c.n * c.n) (λ i. above c d s t ws (i / c.n) (i % c.n)) (λ i l. not_above p (i / c.n) (i % c.n) (div_below i c.n c.n some l) (mod_below i c.n some)),
       )
-
-  pub above_here : (u v : ℕ) → 0 < c.part s u → 0 < c.part t v → pos (d.entry u v) <ℤ (alpha ws u +ℤ beta c ws v) → above c d s t ws u v ≡ true
-  above_here u v hu hv h = rw (lt-ltb 0 (c.part s u) hu, lt-ltb 0 (c.part t v) hv) (sym (true_is_lt (pos (d.entry u v)) (alpha ws u +ℤ beta c ws v) (lt_out (pos (d.entry u v)) (alpha ws u +ℤ beta c ws v) h)))

@@ -1,3 +1,3 @@
 pub mod Bounds
+pub mod Cells
 pub mod Starts
-pub mod Overlays

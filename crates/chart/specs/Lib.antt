@@ -7,3 +7,5 @@ pub mod Laws
 pub mod Starting
 pub mod Supported
 pub mod Same
+pub mod Cells
+pub mod Texts

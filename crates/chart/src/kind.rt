@@ -1,6 +1,7 @@
-ghost use Rattle.std.specs.Prelude.{◌≡◌, ◌≤◌};
+ghost use Rattle.std.specs.Prelude.{◌≡◌, ◌≤◌, ◌&&◌, nat_lt};
 ghost use Rattle.chart.specs.Tables.{distances};
 ghost use Rattle.chart.specs.Meaning.{Meaning};
+ghost use Rattle.chart.specs.Starting.{judged_pair};
 ghost use Rattle.chart.specs.Laws.{Lawful};
 
 use crate::side::Side;
@@ -27,6 +28,7 @@ pub trait Chart {
         ensures { result ≡ (meaning self.now).longest };
 
     /// Whether two sections are apart.
+    // Two numbers here and in the crates above, and not a struct of a pair: each clause would take it apart again.
     fn apart(&self, s: usize, t: usize) -> bool
         ensures { result ≡ (meaning self.now).apart s t };
 
@@ -40,6 +42,20 @@ pub trait Chart {
         words: &[i32],
     ) -> Result<u32, Self::Fault>
         ensures { result ≡ (meaning self.now).weigh side (distances table.now) s t words.now };
+
+    /// Whether the chart has both sections.
+    final fn has_both(&self, s: usize, t: usize) -> bool
+        ensures { result ≡ (nat_lt s (meaning self.now).sections && nat_lt t (meaning self.now).sections) }
+    {
+        s < self.sections() && t < self.sections()
+    }
+
+    /// Whether two sections are a judged pair: the chart has both, and they are not apart.
+    final fn judges(&self, s: usize, t: usize) -> bool
+        ensures { result ≡ judged_pair (meaning self.now) s t }
+    {
+        self.has_both(s, t) && !self.apart(s, t)
+    }
 
     ghost lawful: { (c : Self) → Lawful (meaning c) };
 }

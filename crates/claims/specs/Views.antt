@@ -1,6 +1,5 @@
 -- What the claims and the marks of the code stand for. Outside the 32 sections that they have room for, nothing is claimed or shown.
 use Rattle.std.specs.Prelude.{ℕ, ◌+◌, ◌*◌, max, Bool, false, cond, ◌&&◌, List, [], ◌∷◌, Some, None, Option, nat_lt, slice_index_or}
-use Rattle.finite.specs.Sums.{sum}
 use Rattle.history.specs.Rules.{Draft}
 use Rattle.claims.specs.declared.draft.Claims.{Claims}
 use Rattle.claims.specs.declared.marks.Marks.{Marks}
@@ -20,7 +19,3 @@ abbrev pub highest : List (Option ℕ) → ℕ
 highest [] = 0
 highest (None ∷ xs) = highest xs
 highest (Some v ∷ xs) = max v (highest xs)
-
--- how many of the numbers below n pass a test
-abbrev pub passing : ℕ → (ℕ → Bool) → ℕ
-passing n p = sum n (λ k. cond (p k) 1 0)

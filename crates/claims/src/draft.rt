@@ -1,4 +1,5 @@
 use chart::side::Side;
+use chart::table::CELLS;
 
 mod values;
 
@@ -6,5 +7,6 @@ mod values;
 #[derive(Clone, Copy)]
 pub struct Claims {
     side: Side,
-    pub(crate) values: [Option<u32>; 1024],
+    // An array, since a register uses no heap.
+    pub(crate) values: [Option<u32>; CELLS],
 }

@@ -1,18 +1,8 @@
--- What the readers of a line's parts answer.
-use Rattle.std.specs.Prelude.{◌≡◌, ℕ, ◌≤◌, Bool, true, false, cond, List, length, Err}
+-- What follows a command's own fields.
+use Rattle.std.specs.Prelude.{Bool, true, false, cond}
 use Rattle.commands.specs.declared.command.Command.{Command}
 use Rattle.commands.specs.declared.command.Command.TheVariants.{Open, Claim, Close, Show, Enter, Abandon, Ask, Weigh}
-use Rattle.commands.specs.declared.malformed.Malformed.{Malformed}
 use Rattle.commands.specs.Reading.{Reading, no_more, all_words}
-
-module _ {X : Type 0} (part : (X → Reading) → Reading) (fs : List (List ℕ)) where
-  -- the part says x, and is followed by these fields
-  abbrev pub Says : X → List (List ℕ) → Type 0
-  Says x rest = ((next : X → Reading) → part next fs ≡ next x rest) × (length rest ≤ length fs)
-
-  -- the part is wrong
-  abbrev pub Wrong : Malformed → Type 0
-  Wrong e = (next : X → Reading) → part next fs ≡ Err e
 
 abbrev pub takes_words : Command → Bool
 takes_words (Open x) = false

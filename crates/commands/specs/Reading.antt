@@ -1,27 +1,17 @@
 -- What a line asks for, or what is wrong with it.
-use Rattle.std.specs.Prelude.{ℕ, ◌+◌, Bool, cond, List, [], ◌∷◌, ℤ, Some, None, Ok, Err, codes, Option, Result, ◌==◌, slice_index}
+use Rattle.std.specs.Prelude.{ℕ, ◌+◌, cond, List, [], ◌∷◌, drop, ℤ, Some, None, Ok, Err, Option, Result}
 use Rattle.std.specs.Option.{ok_or}
-use Rattle.std.specs.Str.{bytes_eq}
 use Rattle.chart.specs.declared.side.Side.{Side}
-use Rattle.chart.specs.declared.side.Side.TheVariants.{Upper, Lower}
 use Rattle.lines.specs.Fields.{fields}
-use Rattle.lines.specs.Numerals.{number_of, word_of}
+use Rattle.lines.specs.Numerals.{number_of}
+use Rattle.lines.specs.Reading.{◌then◌, comment, first, side_of, words_from}
+use Rattle.lines.specs.declared.malformed.Malformed.{Malformed}
+use Rattle.lines.specs.declared.malformed.Malformed.TheVariants.{UnknownCommand, TooManyFields, NotASide, NotANumber}
 use Rattle.commands.specs.declared.command.Command.{Command}
 use Rattle.commands.specs.declared.command.Command.TheVariants.{Open, Claim, Close, Show, Enter, Abandon, Ask, Weigh}
-use Rattle.commands.specs.declared.malformed.Malformed.{Malformed}
-use Rattle.commands.specs.declared.malformed.Malformed.TheVariants.{UnknownCommand, TooFewFields, TooManyFields, NotASide, NotANumber, NotAWord}
 use Rattle.commands.specs.declared.name.Name.{Name}
 use Rattle.commands.specs.declared.name.Name.TheVariants as name
 use Rattle.commands.specs.Names.{name_of}
-
--- the first error of two readings, or what the second makes of the first
-infixr 1 ◌then◌
-abbrev pub ◌then◌ : {X Y : Type 0} → Result X Malformed → (X → Result Y Malformed) → Result Y Malformed
-(Ok x) then f = f x
-(Err e) then f = Err e
-
-abbrev pub side_of : List ℕ → Option Side
-side_of f = cond (bytes_eq f (codes "upper")) (Some Upper) (cond (bytes_eq f (codes "lower")) (Some Lower) None)
 
 -- what fields ask for: a command with its words
 abbrev pub Reading : Type 0
@@ -29,8 +19,7 @@ Reading = List (List ℕ) → Result (Command × List ℤ) Malformed
 
 -- a field, as `says` reads it, and then other fields
 abbrev pub a_field : {X : Type 0} → (List ℕ → Option X) → Malformed → (X → Reading) → Reading
-a_field says wrong next [] = Err TooFewFields
-a_field says wrong next (f ∷ fs) = ok_or (says f) wrong then λ x. next x fs
+a_field says wrong next fs = first says wrong fs then λ x. next x (drop 1 fs)
 
 -- field k, a side or a number
 abbrev pub a_side : ℕ → (Side → Reading) → Reading
@@ -48,11 +37,6 @@ abbrev pub no_more : Command → Reading
 no_more c [] = Ok (c, [])
 no_more c (f ∷ fs) = Err TooManyFields
 
--- the words that the fields write; k is the number of the first
-unfoldable pub words_from : ℕ → List (List ℕ) → Result (List ℤ) Malformed
-words_from k [] = Ok []
-words_from k (f ∷ fs) = ok_or (word_of f) (NotAWord k) then λ w. words_from (k + 1) fs then λ ws. Ok (w ∷ ws)
-
 -- each other field of the command is a word
 abbrev pub all_words : Command → Reading
 all_words c fs = words_from 0 fs then λ ws. Ok (c, ws)
@@ -67,10 +51,6 @@ command_read name.Enter = no_more Enter
 command_read name.Abandon = no_more Abandon
 command_read name.Ask = two_sections 1 λ s t. no_more (Ask s t)
 command_read name.Weigh = a_side 1 λ x. two_sections 2 λ s t. all_words (Weigh x s t)
-
--- whether a line whose first field is this one is passed over: it begins with #
-abbrev pub comment : List ℕ → Bool
-comment f = slice_index f 0 == 35
 
 abbrev pub fields_read : List (List ℕ) → Result (Option (Command × List ℤ)) Malformed
 fields_read [] = Ok None

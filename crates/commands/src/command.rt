@@ -1,11 +1,12 @@
 ghost use Rattle.std.specs.Prelude.{◌≡◌, Some};
 ghost use Rattle.commands.specs.Parts.{takes_words};
-ghost use Rattle.commands.specs.Texts.{command_text, side_text};
+ghost use Rattle.commands.specs.Texts.{command_text};
 
 use chart::side::Side;
 use std::fmt;
 
 /// What a line asks for.
+// Not that of `lines`, whose reader answers weighings alone.
 #[derive(Clone, Copy, PartialEq, Eq, Debug)]
 pub enum Command {
     /// `open upper|lower`: a draft of claims on that side is to be opened.
@@ -40,30 +41,14 @@ impl fmt::Display for Command {
 
     fn fmt<W: fmt::Write>(&self, f: &mut fmt::Formatter<W>) -> fmt::Result {
         match *self {
-            Command::Open { side } => {
-                let side = side_name(side);
-                write!(f, "open {side}")
-            }
+            Command::Open { side } => write!(f, "open {side}"),
             Command::Claim { s, t, value } => write!(f, "claim {s} {t} {value}"),
             Command::Close => write!(f, "close"),
             Command::Show { s, t } => write!(f, "show {s} {t}"),
             Command::Enter => write!(f, "enter"),
             Command::Abandon => write!(f, "abandon"),
             Command::Ask { s, t } => write!(f, "ask {s} {t}"),
-            Command::Weigh { side, s, t } => {
-                let side = side_name(side);
-                write!(f, "weigh {side} {s} {t}")
-            }
+            Command::Weigh { side, s, t } => write!(f, "weigh {side} {s} {t}"),
         }
-    }
-}
-
-/// The field that names a side.
-fn side_name(side: Side) -> &'static str
-    ensures { result.now ≡ side_text side }
-{
-    match side {
-        Side::Upper => "upper",
-        Side::Lower => "lower",
     }
 }

@@ -1,5 +1,4 @@
 ghost use Rattle.std.specs.Prelude.{◌≡◌};
-ghost use Rattle.std.specs.Str.{bytes_eq};
 ghost use Rattle.commands.specs.Names.{name_of};
 
 /// The names of commands, each the first field of its lines.
@@ -15,34 +14,20 @@ pub(crate) enum Name {
     Weigh,
 }
 
-/// Whether a field has just these bytes.
-pub(crate) fn is_text(field: &[u8], text: &[u8]) -> bool
-    ensures { result ≡ bytes_eq field.now text.now }
-{
-    field == text
-}
-
 /// The name that a field is.
+#[tactic(auto, using(std::proofs::lemmas::Slice::Eq::text_from_reads))]
 pub(crate) fn read_name(field: &[u8]) -> Option<Name>
     ensures { result ≡ name_of field.now }
 {
-    if is_text(field, b"open") {
-        Some(Name::Open)
-    } else if is_text(field, b"claim") {
-        Some(Name::Claim)
-    } else if is_text(field, b"close") {
-        Some(Name::Close)
-    } else if is_text(field, b"show") {
-        Some(Name::Show)
-    } else if is_text(field, b"enter") {
-        Some(Name::Enter)
-    } else if is_text(field, b"abandon") {
-        Some(Name::Abandon)
-    } else if is_text(field, b"ask") {
-        Some(Name::Ask)
-    } else if is_text(field, b"weigh") {
-        Some(Name::Weigh)
-    } else {
-        None
+    match field {
+        b"open" => Some(Name::Open),
+        b"claim" => Some(Name::Claim),
+        b"close" => Some(Name::Close),
+        b"show" => Some(Name::Show),
+        b"enter" => Some(Name::Enter),
+        b"abandon" => Some(Name::Abandon),
+        b"ask" => Some(Name::Ask),
+        b"weigh" => Some(Name::Weigh),
+        _ => None,
     }
 }

@@ -7,7 +7,8 @@ mod tests {
     use chart::side::Side;
     use commands::command::Command;
     use commands::line::read_line;
-    use commands::malformed::Malformed;
+    use lines::malformed::Malformed;
+    use lines::parts::read_words;
     use std::alloc::Global;
     use std::process::Abort;
 
@@ -50,6 +51,13 @@ mod tests {
         reads(&rt, heap, b"abandon\r", Some(Command::Abandon), &[]);
         reads(&rt, heap, b" \t\r", None, &[]);
         reads(&rt, heap, b" #weigh upper x", None, &[]);
+    }
+
+    #[test]
+    fn words(rt: HostRuntime) {
+        let mut words = Vec::new(rt.alloc());
+        assert_eq!(&rt; read_words(b" 1 -2\t003 ", &mut words), Ok(()));
+        assert!(&rt; words.as_slice() == [1, -2, 3].as_slice());
     }
 
     #[test]

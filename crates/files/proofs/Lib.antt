@@ -1,3 +1,2 @@
 mod Spans
-mod Exits
 pub mod Reading

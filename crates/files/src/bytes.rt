@@ -5,17 +5,13 @@ ghost use Rattle.files.specs.Format.{byte as byte_of, field as field_of};
 pub fn byte(bytes: &[u8], at: usize) -> u8
     ensures { result ≡ byte_of bytes.now at }
 {
-    if at < bytes.len() { bytes[at] } else { 0 }
+    bytes.get(at).copied().unwrap_or(0)
 }
 
 /// The 16 bits from a place on, high byte first; a byte past the end counts as 0.
 pub fn field(bytes: &[u8], at: usize) -> u16
     ensures { result ≡ field_of bytes.now at }
 {
-    let low = if at < bytes.len() {
-        byte(bytes, at + 1)
-    } else {
-        0
-    };
+    let low = byte(bytes, at.saturating_add(1));
     u16::from_be_bytes([byte(bytes, at), low])
 }

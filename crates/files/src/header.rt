@@ -1,4 +1,4 @@
-ghost use Rattle.std.specs.Prelude.{◌≡◌, ◌≤◌, IfOk};
+ghost use Rattle.std.specs.Prelude.{◌≡◌, ◌≤◌, Some, None, IfOk, MatchResult};
 ghost use Rattle.files.specs.Headers.{header_of, sections_allowed, discount_allowed, bands_span, routes_span};
 ghost use Rattle.files.specs.Refusals.{refusal_of};
 ghost use Rattle.files.specs.Reading.{header_read, Fits};
@@ -77,49 +77,49 @@ impl Header {
             size: kind.route_bytes(self.sections),
         }
     }
-}
 
-/// The first check that a file with this header fails.
-fn find_refusal(bytes: &[u8], kind: Kind, header: Header) -> Option<ReadRefusal>
-    ensures { result ≡ refusal_of kind bytes.now header }
-{
-    if bytes.len() < HEADER_BYTES {
-        return Some(ReadRefusal::Short(bytes.len()));
+    /// Refuses a file with this header by the first check that it fails.
+    #[tactic(auto, unfolding(crate::specs::Refusals::refusal_of))]
+    fn check(self, bytes: &[u8], kind: Kind) -> Result<(), ReadRefusal>
+        ensures { MatchResult result (λ _. refusal_of kind bytes.now self ≡ None) (λ e. refusal_of kind bytes.now self ≡ Some e) }
+    {
+        if bytes.len() < HEADER_BYTES {
+            return Err(ReadRefusal::Short(bytes.len()));
+        }
+        if usize::from(field(bytes, LENGTH_AT)) != bytes.len() {
+            return Err(ReadRefusal::Length);
+        }
+        if field(bytes, KIND_AT) != kind.code() {
+            return Err(ReadRefusal::OtherKind);
+        }
+        if !self.allows_sections() {
+            return Err(ReadRefusal::Sections);
+        }
+        if !self.allows_discount() {
+            return Err(ReadRefusal::Discount);
+        }
+        if !kind.allows_whole(self.whole) {
+            return Err(ReadRefusal::Whole);
+        }
+        let bands = self.bands();
+        if !bands.lies_in(bytes.len()) {
+            return Err(ReadRefusal::Bands);
+        }
+        let routes = self.routes(kind);
+        if !routes.lies_in(bytes.len()) || bands.shares_byte(routes, bytes.len()) {
+            return Err(ReadRefusal::Routes);
+        }
+        Ok(())
     }
-    if usize::from(field(bytes, LENGTH_AT)) != bytes.len() {
-        return Some(ReadRefusal::Length);
-    }
-    if field(bytes, KIND_AT) != kind.code() {
-        return Some(ReadRefusal::OtherKind);
-    }
-    if !header.allows_sections() {
-        return Some(ReadRefusal::Sections);
-    }
-    if !header.allows_discount() {
-        return Some(ReadRefusal::Discount);
-    }
-    if !kind.allows_whole(header.whole) {
-        return Some(ReadRefusal::Whole);
-    }
-    let bands = header.bands();
-    if !bands.lies_in(bytes.len()) {
-        return Some(ReadRefusal::Bands);
-    }
-    let routes = header.routes(kind);
-    if !routes.lies_in(bytes.len()) || bands.shares_byte(routes, bytes.len()) {
-        return Some(ReadRefusal::Routes);
-    }
-    None
 }
 
 /// The header of a file that should hold a chart of the kind, or the first check that it fails.
+#[tactic(auto, using(crate::proofs::Reading::fits_unrefused))]
 pub fn read_header(bytes: &[u8], kind: Kind) -> Result<Header, ReadRefusal>
     ensures answer { result ≡ header_read kind bytes.now }
     ensures fits { IfOk result (λ h. Fits kind bytes.now h) }
 {
     let header = Header::of(bytes);
-    match find_refusal(bytes, kind, header) {
-        Some(refusal) => Err(refusal),
-        None => Ok(header),
-    }
+    header.check(bytes, kind)?;
+    Ok(header)
 }

@@ -10,6 +10,7 @@ pub enum Kind {
 
 impl Kind {
     /// The number by which a file names the kind.
+    // Not `TryFrom`: a file is read as one kind, and its number is compared with that kind's.
     pub(crate) fn code(self) -> u16
         ensures { result ≡ code_of self }
     {

@@ -5,15 +5,15 @@ use Rattle.std.proofs.lemmas.Bool.{cases_eq}
 use Rattle.finite.specs.Search.{given, first_of, least}
 
 pub first_of_none : {X : Type 0} (o : Option X) (os : List (Option X)) → first_of (o ∷ os) ≡ None → (o ≡ None) × (first_of os ≡ None)
-first_of_none (Some x) os e = let z : ◌≡◌ {A = ℕ} 0 1 = cc in absurd (omega arith)
+first_of_none (Some x) os e = absurd (cc e)
 first_of_none None os e = (refl, e)
 
 pub given_none : {X : Type 0} (b : Bool) (x : X) → given b x ≡ None → b ≡ false
-given_none true x e = let z : ◌≡◌ {A = ℕ} 0 1 = cc in absurd (omega arith)
+given_none true x e = absurd (cc e)
 given_none false x e = refl
 
 pub mapped_none : {X Y : Type 0} (f : X → Y) (o : Option X) → option_map f o ≡ None → o ≡ None
-mapped_none f (Some x) e = let z : ◌≡◌ {A = ℕ} 0 1 = cc in absurd (omega arith)
+mapped_none f (Some x) e = absurd (cc e)
 mapped_none f None e = refl
 
 -- where there is no least number, none passes
@@ -35,6 +35,20 @@ least_found (suc n) p i l here before =
     (λ same. rw (least_none n p (λ k b. before k (omega arith)), sym (ap p same) ∙ here) (ap Some (sym same)))
     (λ d. rw (least_found n p i (omega arith) here before))
     (cases_eq i n)
+
+-- i is below n, it passes, and none before it does
+pub record LeastAt (n : ℕ) (p : ℕ → Bool) (i : ℕ) : Type 0 where
+  pub within : i < n
+  pub passes : p i ≡ true
+  pub before : (k : ℕ) → k < i → p k ≡ false
+
+pub least_at : (n : ℕ) (p : ℕ → Bool) (i : ℕ) → least n p ≡ Some i → LeastAt n p i
+least_at zero p i e = absurd (cc e)
+least_at (suc n) p i e = at (least n p) (p n) refl refl (least_at n p i) e where
+  at : (o : Option ℕ) (b : Bool) → least n p ≡ o → p n ≡ b → (least n p ≡ Some i → LeastAt n p i) → first_of (o ∷ given b n ∷ []) ≡ Some i → LeastAt (suc n) p i
+  at (Some k) b eo eb rec h = let l = rec (eo ∙ h) in record { within = omega (arith, l.within); passes = l.passes; before = l.before }
+  at None true eo eb rec h = let same : n ≡ i = cc h in record { within = omega arith; passes = ap p (sym same) ∙ eb; before = λ k l. least_none_at n p eo k (omega arith) }
+  at None false eo eb rec h = absurd (cc h)
 
 pub least_same : (n : ℕ) (p q : ℕ → Bool) → ((i : ℕ) → i < n → p i ≡ q i) → least n p ≡ least n q
 least_same zero p q h = refl

@@ -1,7 +1,8 @@
 -- Laws of sums over the numbers below n.
-use Rattle.std.proofs.Common.{◌≡◌, ℕ, zero, suc, ◌+◌, ◌*◌, ◌<◌, ◌≤◌, cond, eqb, ℤ, sym, refl, ap, ◌∙◌, ⊎_elim, mul_comm, mul-zero, mul-add, arith}
+use Rattle.std.proofs.Common.{◌≡◌, ℕ, zero, suc, ◌+◌, ◌*◌, ◌<◌, ◌≤◌, cond, eqb, ℤ, sym, refl, ap, ◌∙◌, ⊎_elim, mul_comm, arith}
 use borrow.Author.Differences.{up, down, sum_is_lem}
-use Rattle.std.proofs.lemmas.Bool.{cases_eq, cond-true, cond-false, eq-eqb, ne_eqb}
+use Rattle.std.proofs.lemmas.Bool.{cases_eq}
+use Rattle.std.proofs.lemmas.Bool.Decides.{nat_tests}
 use Rattle.finite.specs.Sums.{sum, sumℤ}
 
 pub sum_same : (n : ℕ) (f g : ℕ → ℕ) → ((i : ℕ) → i < n → f i ≡ g i) → sum n f ≡ sum n g
@@ -17,8 +18,8 @@ sum_add zero f g = refl
 sum_add (suc n) f g = omega (arith, sum_add n f g)
 
 pub sum_mul : (n k : ℕ) (f : ℕ → ℕ) → sum n (λ i. k * f i) ≡ k * sum n f
-sum_mul zero k f = sym (mul-zero k)
-sum_mul (suc n) k f = omega (arith, sum_mul n k f, mul-add k (sum n f) (f n))
+sum_mul zero k f = omega arith
+sum_mul (suc n) k f = omega (arith, sum_mul n k f)
 
 pub sum_none : (n : ℕ) (f : ℕ → ℕ) → ((i : ℕ) → i < n → f i ≡ 0) → sum n f ≡ 0
 sum_none zero f h = refl
@@ -38,8 +39,8 @@ pub sum_one : (n : ℕ) (f : ℕ → ℕ) (x : ℕ) → x < n → sum n (λ u. c
 sum_one zero f x l = absurd (omega arith)
 sum_one (suc n) f x l =
     ⊎_elim
-    (λ e. omega (arith, sum_none n (λ u. cond (eqb x u) (f u) 0) (λ i k. cond-false (eqb x i) (f i) 0 (ne_eqb x i (λ same. omega arith))), cond-true (eqb x n) (f n) 0 (eq-eqb x n e), ap f e))
-    (λ d. omega (arith, sum_one n f x (omega arith), cond-false (eqb x n) (f n) 0 (ne_eqb x n d)))
+    (λ e. let none = sum_none n (λ u. cond (eqb x u) (f u) 0) (λ i k. grind (arith, nat_tests)) in grind (arith, nat_tests))
+    (λ d. let rest = sum_one n f x (omega arith) in grind (arith, nat_tests))
     (cases_eq x n)
 
 pub sum_mul_right : (n k : ℕ) (f : ℕ → ℕ) → sum n (λ i. f i * k) ≡ sum n f * k

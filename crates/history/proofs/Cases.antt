@@ -1,27 +1,27 @@
--- What stands where something is put or laid; claims that fall short; and what cannot be.
-use Rattle.std.proofs.Common.{◌≡◌, ℕ, zero, suc, ◌<◌, Bool, true, false, cond, ◌&&◌, T, eqb, ◌⊎◌, Some, None, Ok, Err, Option, Result, unwrap_or, refl, inl, inr, arith, eqb→eq}
-use native.Mathlib.Decide.{dec_lt}
+-- What stands where something is put or laid; claims that fall short; the first claim that is not shown; and what cannot be.
+use Rattle.std.proofs.Common.{◌≡◌, ℕ, zero, suc, ◌<◌, Bool, true, false, not, ◌&&◌, ◌⊎◌, is_some, Some, None, Ok, Err, Option, Result, refl, inl, inr, arith}
+use Rattle.std.proofs.lemmas.Bool.{cases_Bool}
+use Rattle.std.proofs.lemmas.Bool.Decides.{nat_tests}
 use Rattle.chart.specs.declared.side.Side.{Side}
 use Rattle.chart.specs.declared.side.Side.TheVariants.{Upper, Lower}
 use Rattle.chart.specs.Weighing.{Weaker}
-use Rattle.history.specs.Rules.{Draft, put, laid, Short}
+use Rattle.chart.specs.Meaning.{Meaning}
+use Rattle.history.specs.declared.refusal.Refusal.TheVariants.{Unshown}
+use Rattle.history.specs.Calls.{Enter}
+use Rattle.history.specs.Rules
+use Rattle.history.specs.Rules.{State, Draft, Marks, showing, put, laid, Short, Ground}
 
 pub never : {A : Type 0} → ◌≡◌ {A = ℕ} 0 1 → A
-never z = absurd (omega arith)
+never z = absurd (cc)
 
 pub absurd_bool : {A : Type 0} {b : Bool} → b ≡ true → b ≡ false → A
-absurd_bool p q = never (cc)
+absurd_bool p q = absurd (cc)
 
 pub absurd_option : {A : Type 0} {o : Option ℕ} {v : ℕ} → o ≡ None → o ≡ Some v → A
-absurd_option p q = never (cc)
+absurd_option p q = absurd (cc)
 
 pub at_put : {A : Type 0} (s t : ℕ) (x : A) (f : ℕ → ℕ → A) (i j : ℕ) → ((i ≡ s) × (j ≡ t) × (put s t x f i j ≡ x)) ⊎ (put s t x f i j ≡ f i j)
-at_put s t x f i j = go (eqb i s) (eqb j t) (eqb→eq i s) (eqb→eq j t)
-  where
-    go : (b c : Bool) → (T b → i ≡ s) → (T c → j ≡ t) → ((i ≡ s) × (j ≡ t) × (cond (b && c) x (f i j) ≡ x)) ⊎ (cond (b && c) x (f i j) ≡ f i j)
-    go true true p q = inl (p tt, q tt, refl)
-    go true false p q = inr refl
-    go false c p q = inr refl
+at_put s t x f i j = grind (arith, nat_tests)
 
 pub cases_option : (o : Option ℕ) → (o ≡ None) ⊎ ((v : ℕ) × (o ≡ Some v))
 cases_option None = inl refl
@@ -32,32 +32,35 @@ cases_result (Ok c) = inl (c, refl)
 cases_result (Err f) = inr (f, refl)
 
 pub at_laid : (d : Draft) (f : ℕ → ℕ → ℕ) (s t : ℕ) → ((v : ℕ) × (d s t ≡ Some v) × (laid d f s t ≡ v)) ⊎ ((d s t ≡ None) × (laid d f s t ≡ f s t))
-at_laid d f s t = go (d s t)
-  where
-    go : (o : Option ℕ) → ((v : ℕ) × (o ≡ Some v) × (unwrap_or o (f s t) ≡ v)) ⊎ ((o ≡ None) × (unwrap_or o (f s t) ≡ f s t))
-    go (Some v) = inl (v, refl, refl)
-    go None = inr (refl, refl)
+at_laid d f s t = elim (cases_option (d s t)) [ inl none ↦ inr (none, rw none) | inr (v, is) ↦ inl (v, is, rw is) ]
 
--- what holds of a number wherever it holds of all smaller ones holds of each
-pub strong : (P : ℕ → Type 0) → ((k : ℕ) → ((j : ℕ) → j < k → P j) → P k) → (k : ℕ) → P k
-strong P step k = step k (all k)
-  where
-    all : (k : ℕ) → (j : ℕ) → j < k → P j
-    all zero j h = absurd (omega arith)
-    all (suc k) j h = step j (λ i hi. all k i (omega arith))
+-- the first of the numbers below n with P, where each has P or Q
+first_of : (n : ℕ) (P Q : ℕ → Type 0) → ((i : ℕ) → i < n → P i ⊎ Q i) → ((i : ℕ) × (i < n) × P i × ((j : ℕ) → j < i → Q j)) ⊎ ((j : ℕ) → j < n → Q j)
+first_of zero P Q each = inr (λ j h. absurd (omega arith))
+first_of (suc n) P Q each = elim (first_of n P Q (λ i h. each i (omega arith))) [
+  | inl (i, h, p, before) ↦ inl (i, omega arith, p, before)
+  | inr all ↦ elim (each n (omega arith)) [ inl p ↦ inl (n, omega arith, p, all) | inr q ↦ inr (λ j h. grind arith) ]
+]
+
+abbrev pub AllShown : Draft → Marks → Type 0
+AllShown d b = (s t v : ℕ) → s < 32 → t < 32 → d s t ≡ Some v → b s t ≡ true
+
+-- a first claim that is not shown, or none
+pub cases_shown : {F : Type 0} (m : Meaning F) (K : ℕ) (σ : State) (e : Side) (d : Draft) (b : Marks) → σ.phase ≡ showing e d b → ((s t : ℕ) × Ground m K σ Enter (Unshown s t)) ⊎ AllShown d b
+cases_shown m K σ e d b ph =
+    let wants : ℕ → ℕ → Bool = λ s t. is_some (d s t) && not (b s t) in
+    let First : ℕ → Type 0 = λ s. (t : ℕ) × (t < 32) × (wants s t ≡ true) × ((y : ℕ) → y < t → wants s y ≡ false) in
+    elim (first_of 32 First (λ s. (t : ℕ) → t < 32 → wants s t ≡ false) (λ s hs. first_of 32 (λ t. wants s t ≡ true) (λ t. wants s t ≡ false) (λ t ht. cases_Bool (wants s t)))) [
+      | inl (s, hs, (t, ht, is, row), rows) ↦ elim (cases_option (d s t)) [
+        | inl none ↦ absurd (grind arith)
+        | inr (v, has) ↦ inl (s, t, Rules.enter_61 e d b s t v ph hs ht has (grind arith) (λ x y w hx hy before has. grind (arith, row y, rows x)))
+      ]
+      | inr all ↦ inr (λ s t v hs ht is. grind (arith, all s hs t ht))
+    ]
 
 pub cases_short : (e : Side) (c v : ℕ) → Short e c v ⊎ (Short e c v → ⊥)
-cases_short Upper c v = elim (dec_lt v c) [ yes h ↦ inl h | no h ↦ inr h ]
-cases_short Lower c v = elim (dec_lt c v) [ yes h ↦ inl h | no h ↦ inr h ]
+cases_short Upper c v = grind arith
+cases_short Lower c v = grind arith
 
 pub reaches : (e : Side) (c v : ℕ) → (Short e c v → ⊥) → Weaker e c v
-reaches Upper c v h = omega arith
-reaches Lower c v h = omega arith
-
-pub short_reaches : (e : Side) (c v : ℕ) → Short e c v → Weaker e c v → ⊥
-short_reaches Upper c v h k = omega arith
-short_reaches Lower c v h k = omega arith
-
-pub weaker_refl : (e : Side) (c : ℕ) → Weaker e c c
-weaker_refl Upper c = omega arith
-weaker_refl Lower c = omega arith
+reaches e c v h = grind arith

@@ -1,5 +1,5 @@
 -- The argument by the greatest excess: where each entry of a table is shown by potentials, none is above a table that bounds them.
-use Rattle.std.proofs.Common.{◌≡◌, ℕ, zero, suc, ◌+◌, ◌-◌, ◌*◌, ◌<◌, ◌≤◌, ◌⊎◌, List, ℤ, ap, inl, inr, le_refl, mul-le-mul_right, arith}
+use Rattle.std.proofs.Common.{◌≡◌, ℕ, zero, suc, ◌+◌, ◌-◌, ◌*◌, ◌<◌, ◌≤◌, ◌⊎◌, List, ℤ, ap, inl, inr, mul-le-mul_right, arith}
 use native.Mathlib.Decide.{dec_le, dec_lt}
 use Rattle.chart.specs.declared.side.Side.TheVariants.{Lower}
 use Rattle.chart.specs.Distances.{Distances}
@@ -9,27 +9,21 @@ use Rattle.history.specs.Bounding.{Bounding, SupportedIsBounding}
 use Rattle.history.specs.Promises.{Below}
 
 -- the greatest of the values at the numbers below n
-peak_from : (k : ℕ) (f : ℕ → ℕ) → (i : ℕ) × (i < suc k) × ((j : ℕ) → j < suc k → f j ≤ f i)
-peak_from zero f = (0, omega arith, λ j h. let e : j ≡ 0 = omega arith in rw e (le_refl (f 0)))
-peak_from (suc k) f =
-    let (i, lt, most) = peak_from k f in
-    elim (dec_le (f i) (f (suc k))) [
-      | yes up ↦ (suc k, omega arith, λ j h. elim (dec_lt j (suc k)) [ yes l ↦ omega (arith, most j l) | no l ↦ let e : j ≡ suc k = omega arith in rw e (le_refl (f (suc k))) ])
-      | no up ↦ (i, omega arith, λ j h. elim (dec_lt j (suc k)) [ yes l ↦ most j l | no l ↦ let e : j ≡ suc k = omega arith in rw e (omega arith) ])
-    ]
-
 peak : (n : ℕ) (f : ℕ → ℕ) → 1 ≤ n → (i : ℕ) × (i < n) × ((j : ℕ) → j < n → f j ≤ f i)
 peak zero f h = absurd (omega arith)
-peak (suc k) f h = peak_from k f
+peak (suc zero) f h = (0, omega arith, grind arith)
+peak (suc (suc k)) f h =
+    let (i, lt, most) = peak (suc k) f (omega arith) in
+    elim (dec_le (f i) (f (suc k))) [
+      | yes up ↦ (suc k, omega arith, λ j h. grind (arith, most j))
+      | no up ↦ (i, omega arith, λ j h. grind (arith, most j))
+    ]
 
 peak_pair : (n : ℕ) (f : ℕ → ℕ → ℕ) → 1 ≤ n → (s t : ℕ) × (s < n) × (t < n) × ((x y : ℕ) → x < n → y < n → f x y ≤ f s t)
 peak_pair n f h =
     let row : (s : ℕ) → (t : ℕ) × (t < n) × ((y : ℕ) → y < n → f s y ≤ f s t) = λ s. peak n (f s) h in
     let (s, s-lt, most) = peak n (λ s. f s (row s).0) h in
     (s, (row s).0, s-lt, (row s).1, λ x y hx hy. omega (arith, (row x).2 y hy, most x hx))
-
-too_much : (a b p q k : ℕ) → a < b → 1 ≤ k → q + k ≡ p → b * p ≤ b * q + a * k → ⊥
-too_much a b p q k lt some e h = omega (arith, ap (λ z. b * z) e, mul-le-mul_right k lt)
 
 module _ {F : Type 0} (m : Meaning F) (lawful : Lawful m) where
   pub supported_bounding : SupportedIsBounding m
@@ -50,7 +44,7 @@ module _ {F : Type 0} (m : Meaning F) (lawful : Lawful m) where
   none_over l e s t k bounding (inl under) some is most = omega arith
   none_over l e s t k bounding (inr (j, high, (ws, shown))) some is most =
       elim (dec_lt (e.entry s t) e.top) [
-        | yes low ↦ too_much _ _ _ _ k lawful.discounted some is (bounding.holds s t j low l ws _ k shown most)
+        | yes low ↦ omega (arith, bounding.holds s t j low l ws _ k shown most, ap (λ z. m.denominator * z) is, mul-le-mul_right k lawful.discounted)
         | no no-low ↦ let top : e.top ≤ e.entry s t = omega arith in omega (arith, mul-le-mul_right e.top high, mul-le-mul_right l.top top)
       ]
 

@@ -1,8 +1,8 @@
 -- Sending a full certificate.
-use Rattle.std.proofs.Common.{◌≡◌, ℕ, ◌<◌, ◌≤◌, Bool, true, false, cond, ◌&&◌, ◌||◌, T, eqb, List, [], ◌∷◌, ◌++◌, map, ℤ, Some, None, Ok, sym, refl, ap, ◌∙◌, ap₂, inl, inr, le_of_mul-le-mul_right, arith, eqb→eq}
+use Rattle.std.proofs.Common.{◌≡◌, ℕ, ◌<◌, ◌≤◌, true, false, cond, List, [], ◌∷◌, ◌++◌, map, ℤ, Some, None, Ok, sym, refl, ap, ◌∙◌, inl, inr, le_of_mul-le-mul_right, arith}
 use native.Mathlib.Decide.{dec_lt}
-use mathlib.Core.Bool.{or-true}
-use Rattle.std.proofs.lemmas.Bool.{cases_Bool, eq-eqb}
+use Rattle.std.proofs.lemmas.Bool.{cases_Bool}
+use Rattle.std.proofs.lemmas.Bool.Decides.{nat_tests}
 use Rattle.chart.specs.declared.side.Side.{Side}
 use Rattle.chart.specs.declared.side.Side.TheVariants.{Upper, Lower}
 use Rattle.chart.specs.Distances.{Distances}
@@ -16,11 +16,11 @@ use Rattle.history.specs.Rules
 use Rattle.history.specs.Rules.{State, resting, claiming, showing, Draft, Marks, put, laid, side_of, with_phase, written, over, Effect, refuses, accepts, Run, rest, turn}
 use Rattle.history.specs.Certificate.{Certificate, Pair, among, Distinct, Lists, claim_of, show_of, draft_calls, Positive, Sent, all_0, some_above}
 use Rattle.history.specs.Promises.{calls, EachAccepted, Settles, Enters, CertificateEnters}
-use Rattle.history.proofs.Cases.{never, absurd_bool, absurd_option, at_put, cases_result, short_reaches, weaker_refl}
+use Rattle.history.proofs.Cases.{absurd_bool, cases_result}
 use Rattle.history.proofs.Peak.{supported_bounding, below}
 use Rattle.history.proofs.Sound.{Sound, always_sound, Fits, answer_strongest, fault_unshown}
 use Rattle.history.proofs.Grounds.{judged_inside, Free, openable, claimable, closable, showable, enterable}
-use Rattle.history.proofs.Outcomes.{one_step}
+use Rattle.history.proofs.Alone.{by_calls_alone}
 
 -- ---- lists of pairs, and what is put at them
 
@@ -31,33 +31,17 @@ put_all x (p ∷ ps) f = put_all x ps (put p.0 p.1 (x p.0 p.1) f)
 put_all_at : {A : Type 0} (x : ℕ → ℕ → A) (ps : List Pair) (f : ℕ → ℕ → A) (s t : ℕ) → put_all x ps f s t ≡ cond (among s t ps) (x s t) (f s t)
 unfolding put_all
 put_all_at x [] f s t = refl
-put_all_at x (p ∷ ps) f s t = put_all_at x ps (put p.0 p.1 (x p.0 p.1) f) s t ∙ go (eqb s p.0) (eqb t p.1) (among s t ps) (eqb→eq s p.0) (eqb→eq t p.1)
-  where
-    go : (b c a : Bool) → (T b → s ≡ p.0) → (T c → t ≡ p.1) → cond a (x s t) (cond (b && c) (x p.0 p.1) (f s t)) ≡ cond ((b && c) || a) (x s t) (f s t)
-    go true true true q r = refl
-    go true true false q r = rw (q tt, r tt)
-    go true false a q r = refl
-    go false c a q r = refl
-
-module _ {A : Type 0} (x : ℕ → ℕ → A) (ps : List Pair) (f : ℕ → ℕ → A) (s t : ℕ) where
-  put_all_in : among s t ps ≡ true → put_all x ps f s t ≡ x s t
-  put_all_in h = rw (put_all_at x ps f s t, h)
-
-  put_all_out : among s t ps ≡ false → put_all x ps f s t ≡ f s t
-  put_all_out h = rw (put_all_at x ps f s t, h)
+put_all_at x (p ∷ ps) f s t = put_all_at x ps (put p.0 p.1 (x p.0 p.1) f) s t ∙ grind (arith, nat_tests)
 
 among_head : (p : Pair) (ps : List Pair) → among p.0 p.1 (p ∷ ps) ≡ true
-among_head p ps = rw (eq-eqb p.0 p.0 refl, eq-eqb p.1 p.1 refl)
+among_head p ps = grind (arith, nat_tests)
 
 among_tail : (s t : ℕ) (p : Pair) (ps : List Pair) → among s t ps ≡ true → among s t (p ∷ ps) ≡ true
-among_tail s t p ps h = rw h (or-true _)
+among_tail s t p ps h = grind (arith, nat_tests)
 
 -- at the pairs of a distinct rest stands what stood there
 put_rest : {A : Type 0} (p : Pair) (ps : List Pair) (y : A) (f : ℕ → ℕ → A) (s t : ℕ) → among p.0 p.1 ps ≡ false → among s t ps ≡ true → put p.0 p.1 y f s t ≡ f s t
-put_rest p ps y f s t out h = elim (at_put p.0 p.1 y f s t) [
-  | inl (q, r, is) ↦ absurd_bool (rw (q, r) at h) out
-  | inr is ↦ is
-]
+put_rest p ps y f s t out h = grind (arith, nat_tests)
 
 -- ---- accepted calls
 
@@ -93,7 +77,7 @@ module _ {F : Type 0} (m : Meaning F) (K : ℕ) where
         → Free m K (with_phase σ (showing e d b)) (Show s t ws)
     shown_free d b s t ws j is none shown = elim (cases_result (m.weigh e (over K (laid d side)) s t ws)) [
       | inl (c, w) ↦ showable m K (with_phase σ (showing e d b)) e d b s t (v s t) c ws refl (j.first_in, j.second_in) is none w
-          (λ short. short_reaches e c (v s t) short (answer_strongest m lawful e _ s t ws c (v s t) w shown))
+          (λ short. grind (arith, answer_strongest m lawful e _ s t ws c (v s t) w shown))
       | inr (f, w) ↦ absurd (fault_unshown m lawful e _ s t ws f (v s t) w shown)
     ]
 
@@ -116,11 +100,8 @@ marked : List Pair → Marks
 marked qs = put_all (λ s t. true) qs (λ s t. false)
 
 -- the claims laid over f are g where they stand, and f elsewhere
-drafted_in : (g f : ℕ → ℕ → ℕ) (ps : List Pair) (s t : ℕ) → among s t ps ≡ true → laid (drafted g ps) f s t ≡ g s t
-drafted_in g f ps s t h = rw (put_all_in (λ s t. Some (g s t)) ps (λ s t. None) s t h)
-
-drafted_out : (g f : ℕ → ℕ → ℕ) (ps : List Pair) (s t : ℕ) → among s t ps ≡ false → laid (drafted g ps) f s t ≡ f s t
-drafted_out g f ps s t h = rw (put_all_out (λ s t. Some (g s t)) ps (λ s t. None) s t h)
+drafted_at : (g f : ℕ → ℕ → ℕ) (ps : List Pair) (s t : ℕ) → laid (drafted g ps) f s t ≡ cond (among s t ps) (g s t) (f s t)
+drafted_at g f ps s t = let at = put_all_at (λ s t. Some (g s t)) ps (λ s t. None) s t in grind arith
 
 module _ {F : Type 0} (m : Meaning F) (lawful : Lawful m) (K : ℕ) where
   few : {s : ℕ} → s < m.sections → s < 32
@@ -137,40 +118,22 @@ module _ {F : Type 0} (m : Meaning F) (lawful : Lawful m) (K : ℕ) where
         let D : Draft = drafted g ps in
         let f : ℕ → ℕ → ℕ = side_of e σ in
         let j = (fit s t one).judged in
-        let has : (x y : ℕ) → P x y → D x y ≡ Some (g x y) = λ x y h. put_all_in (λ s t. Some (g s t)) ps (λ s t. None) x y (lp.every x y h) in
+        let has : (x y : ℕ) → P x y → D x y ≡ Some (g x y) = λ x y h. rw (put_all_at (λ s t. Some (g s t)) ps (λ s t. None) x y, lp.every x y h) in
         let near : Tighter e m.sections (over K (laid D f)) (over K g) = record {
           tops = refl;
-          entries = λ x y hx hy. elim (cases_Bool (among x y ps)) [
-            | inl h ↦ rw (drafted_in g f ps x y h) (weaker_refl e (g x y))
-            | inr h ↦ rw (drafted_out g f ps x y h) (off x y hx hy h)
-          ];
+          entries = λ x y hx hy. grind (arith, drafted_at g f ps x y, off x y hx hy);
         } in
         go _ (openable m K σ e quiet) Rules.opens
         (then m K (claims_go m K lawful σ e g ps (λ s t. None) lp.distinct (λ x y h. refl) (λ x y h. fit x y (lp.only x y h)))
         (go _ (closable m K (with_phase σ (claiming e D)) e D s t (g s t) refl (few j.first_in) (few j.second_in) (has s t one)) (Rules.closes e D refl)
         (then m K (shows_go m K lawful σ e g w qs D (λ s t. false) lq.distinct (λ x y h. refl)
         (λ x y h. let q = lq.only x y h in ((fit x y q).judged, has x y q, lawful.monotone e _ _ x y _ _ near (sh x y q))))
-        (go _ (enterable m K (with_phase σ (showing e D (marked qs))) e D (marked qs) refl (λ x y v hx hy is. elim (cases_Bool (among x y ps)) [
-          | inl h ↦ put_all_in (λ s t. true) qs (λ s t. false) x y (lq.every x y (lp.only x y h))
-          | inr h ↦ absurd_option (put_all_out (λ s t. Some (g s t)) ps (λ s t. None) x y h) is
-        ])) (Rules.enters e D (marked qs) refl) stay))))
+        (go _ (enterable m K (with_phase σ (showing e D (marked qs))) e D (marked qs) refl (λ x y v hx hy is.
+        grind (arith, put_all_at (λ s t. Some (g s t)) ps (λ s t. None) x y, put_all_at (λ s t. true) qs (λ s t. false) x y, lq.every x y, lp.only x y))) (Rules.enters e D (marked qs) refl) stay))))
 
 -- ---- the whole certificate
 
-one_page : {F : Type 0} (p q : Page F) → p.call ≡ q.call → p.outcome ≡ q.outcome → p ≡ q
-one_page p q c o = λ i. record { call = c i; outcome = o i }
-
 module _ {F : Type 0} (m : Meaning F) (K : ℕ) where
-  same_run : {σ : State} {h : List (Page F)} {τ : State} {g : List (Page F)} {ρ : State} → Run m K σ h τ → Run m K σ g ρ → calls h ≡ calls g → (h ≡ g) × (τ ≡ ρ)
-  same_run rest rest e = (refl, refl)
-  same_run rest (turn st r) e = never (cc)
-  same_run (turn st r) rest e = never (cc)
-  same_run (turn {p = p} {ps = h} st r) (turn {p = q} {ps = g} st' r') e =
-      let c : q.call ≡ p.call = cc in
-      let (o, same) = one_step m K st (rw c at st') in
-      let (more, end) = same_run r (rw (← same) at r') (cc) in
-      (ap₂ ◌∷◌ (one_page p q (sym c) o) more, end)
-
   enters_by : (cert : Certificate m K) (σ τ : State) (cs : List Call) → Goes m K σ cs τ → Settles m K cert τ → Enters m K cert σ cs
   enters_by cert σ τ cs g settles =
       let (h, run, is, un) = pages_of m K g in
@@ -179,12 +142,12 @@ module _ {F : Type 0} (m : Meaning F) (K : ℕ) where
         end = τ;
         run = run;
         sends = is;
-        settles = λ h' ρ run' e. let (same, end) = same_run run run' (is ∙ sym e) in rw (← same, ← end) (un, settles);
+        settles = λ h' ρ run' e. let (same, end) = by_calls_alone m K run run' (e ∙ sym is) in rw (same, end) (un, settles);
       }
 
   settles_by : (cert : Certificate m K) (τ : State) → ((s t : ℕ) → Judged m s t → (τ.lower s t ≡ cert.entry s t) × (τ.upper s t ≡ cert.entry s t)) → Settles m K cert τ
   settles_by cert τ both s t j o ρ (refuses r (Rules.ask_80 out) least) = absurd (judged_inside m K j out)
-  settles_by cert τ both s t j o ρ (accepts ok Rules.asks) = let (l, u) = both s t j in rw (l, u, j.together, eq-eqb (cert.entry s t) (cert.entry s t) refl)
+  settles_by cert τ both s t j o ρ (accepts ok Rules.asks) = let (l, u) = both s t j in rw (l, u, j.together) (grind (arith, nat_tests))
 
 module _ {F : Type 0} (m : Meaning F) (lawful : Lawful m) (K : ℕ) (k : InRange K) (cert : Certificate m K) (σ : State) (sound : Sound m K σ) where
   abbrev table : Distances
@@ -221,34 +184,32 @@ module _ {F : Type 0} (m : Meaning F) (lawful : Lawful m) (K : ℕ) (k : InRange
 
     mid_settles : ((s t : ℕ) → Judged m s t → cert.entry s t ≡ 0) → Settles m K cert mid
     mid_settles zeros = settles_by m K cert mid (λ s t j.
-        (omega (arith, over_lower s t j.first_in j.second_in, zeros s t j), drafted_in cert.entry σ.upper ps s t (lp.every s t j)))
+        (omega (arith, over_lower s t j.first_in j.second_in, zeros s t j), rw (drafted_at cert.entry σ.upper ps s t, lp.every s t j)))
 
     module _ (us vs : List Pair) (lu : Lists (Positive m K cert) us) (lv : Lists (Positive m K cert) vs) where
       abbrev last : State
       last = record { upper = laid (drafted cert.entry ps) σ.upper; lower = laid (drafted cert.entry us) σ.lower; phase = resting }
 
+      -- the lower entry elsewhere reaches the certificate's
+      off : (x y : ℕ) → x < m.sections → y < m.sections → among x y us ≡ false → cert.entry x y ≤ σ.lower x y
+      off x y hx hy out = elim (cases_Bool (m.apart x y)) [
+        | inl a ↦ rw (sound.lower_apart x y hx hy a) (cert.bounded x y hx hy)
+        | inr a ↦ elim (dec_lt 0 (cert.entry x y)) [
+          | yes some ↦ absurd_bool (lu.every x y (record { judged = record { first_in = hx; second_in = hy; together = a }; above = some })) out
+          | no none ↦ omega arith
+        ]
+      ]
+
       second_goes : (s t : ℕ) → Positive m K cert s t → Goes m K mid (draft_calls Lower cert.entry cert.potentials us vs) last
       second_goes s t one = draft_goes m lawful K Lower mid cert.entry cert.potentials us vs (Positive m K cert) refl lu lv s t one
           (λ x y h. let j = h.judged in record { judged = j; tight = over_lower x y j.first_in j.second_in; top = cert.bounded x y j.first_in j.second_in })
           (λ x y h. (cert.backed x y h.judged h.above).1)
-          (λ x y hx hy out. elim (cases_Bool (m.apart x y)) [
-            | inl a ↦ rw (sound.lower_apart x y hx hy a) (cert.bounded x y hx hy)
-            | inr a ↦ elim (dec_lt 0 (cert.entry x y)) [
-              | yes some ↦ absurd_bool (lu.every x y (record { judged = record { first_in = hx; second_in = hy; together = a }; above = some })) out
-              | no none ↦ omega arith
-            ]
-          ])
+          off
 
       last_settles : Settles m K cert last
       last_settles = settles_by m K cert last (λ s t j. (
-        elim (cases_Bool (among s t us)) [
-          | inl h ↦ drafted_in cert.entry σ.lower us s t h
-          | inr h ↦ elim (dec_lt 0 (cert.entry s t)) [
-            | yes some ↦ absurd_bool (lu.every s t (record { judged = j; above = some })) h
-            | no none ↦ rw (drafted_out cert.entry σ.lower us s t h) (omega (arith, over_lower s t j.first_in j.second_in))
-          ]
-        ],
-        drafted_in cert.entry σ.upper ps s t (lp.every s t j),
+        grind (arith, drafted_at cert.entry σ.lower us s t, over_lower s t j.first_in j.second_in, off s t j.first_in j.second_in),
+        rw (drafted_at cert.entry σ.upper ps s t, lp.every s t j),
       ))
 
   sent_enters : {cs : List Call} → σ.phase ≡ resting → Sent m K cert cs → Enters m K cert σ cs

@@ -1,24 +1,23 @@
 -- What holds of every state that a history leads to.
-use Rattle.std.proofs.Common.{◌≡◌, ℕ, ◌<◌, ◌≤◌, true, false, List, ℤ, Some, Ok, Err, Result, refl, subst, inl, inr, arith}
-use native.Mathlib.Decide.{dec_le, dec_lt}
-use Rattle.std.proofs.lemmas.Bool.{cases_Bool, lt-ltb}
+use Rattle.std.proofs.Common.{◌≡◌, ℕ, ◌<◌, ◌≤◌, true, List, ℤ, Some, Ok, Err, Result, refl, subst, inl, inr, arith}
+use Rattle.std.proofs.lemmas.Bool.{false_from_ne_true}
+use Rattle.std.proofs.lemmas.Bool.Decides.{nat_tests}
 use Rattle.chart.specs.declared.side.Side.{Side}
 use Rattle.chart.specs.declared.side.Side.TheVariants.{Upper, Lower}
 use Rattle.chart.specs.Distances.{Distances}
 use Rattle.chart.specs.Weighing.{Weaker, Weighs}
 use Rattle.chart.specs.Meaning.{Meaning, Judged, Shown}
 use Rattle.chart.specs.Laws.{Lawful, Tighter}
-use Rattle.chart.specs.Starting.{judged_pair, start_entry}
 use Rattle.chart.specs.Supported.{Supported}
 use Rattle.chart.specs.Tops.{InRange}
 use Rattle.history.specs.declared.refusal.Refusal.{Refusal}
-use Rattle.history.specs.declared.refusal.Refusal.TheVariants.{ClaimOutside, ClaimApart, ClaimValue, Fault, Bound, Unshown}
-use Rattle.history.specs.Calls.{Call, Show, Enter, Answer, Page}
+use Rattle.history.specs.declared.refusal.Refusal.TheVariants.{ClaimOutside, ClaimApart, ClaimValue, Fault, Bound}
+use Rattle.history.specs.Calls.{Call, Show, Answer, Page}
 use Rattle.history.specs.Rules
 use Rattle.history.specs.Rules.{State, Phase, resting, claiming, showing, Draft, Marks, laid, side_of, with_phase, written, over, Outside, Unfit, Ground, Effect, Step, refuses, accepts, Run, rest, turn, fresh, weighed_in}
 use Rattle.history.specs.Bounding.{Bounding}
 use Rattle.history.specs.Promises.{Below, UpperSupported, LowerBounded, LowerTrue}
-use Rattle.history.proofs.Cases.{absurd_bool, absurd_option, at_put, at_laid, cases_result, strong, reaches, weaker_refl}
+use Rattle.history.proofs.Cases.{absurd_bool, absurd_option, at_put, at_laid, cases_result, cases_shown, reaches}
 use Rattle.history.proofs.Peak.{supported_bounding, below}
 
 -- ---- what a weighing answers
@@ -63,21 +62,11 @@ module _ {F : Type 0} (m : Meaning F) (K : ℕ) where
     pub phase : InPhase σ σ.phase
 
 module _ {F : Type 0} (m : Meaning F) (lawful : Lawful m) (K : ℕ) where
-  module _ (s t : ℕ) (hs : s < m.sections) (ht : t < m.sections) where
-    starts_apart : m.apart s t ≡ true → start_entry Lower (judged_pair m s t) K ≡ K
-    starts_apart a = rw (lt-ltb s m.sections hs, lt-ltb t m.sections ht, a)
-
-    starts_judged : m.apart s t ≡ false → start_entry Lower (judged_pair m s t) K ≡ 0
-    starts_judged a = rw (lt-ltb s m.sections hs, lt-ltb t m.sections ht, a)
-
   fresh_sound : InRange K → Sound m K (fresh m K)
   fresh_sound k = record {
     upper = record { top_least = k.0; bounded = λ s t hs ht. omega arith; apart = λ s t hs ht a. refl; judged = λ s t j low. absurd (omega arith) };
-    lower = λ e bounding s t hs ht. elim (cases_Bool (m.apart s t)) [
-      | inl a ↦ rw (starts_apart s t hs ht a, bounding.apart s t hs ht a) (omega arith)
-      | inr a ↦ rw (starts_judged s t hs ht a) (omega arith)
-    ];
-    lower_apart = starts_apart;
+    lower = λ e bounding s t hs ht. grind (arith, nat_tests, bounding.apart s t hs ht);
+    lower_apart = λ s t hs ht a. grind (arith, nat_tests);
     phase = tt;
   }
 
@@ -88,19 +77,11 @@ module _ {F : Type 0} (m : Meaning F) (lawful : Lawful m) (K : ℕ) where
   in_phase σ p sound e = subst (InPhase m K σ) e sound.phase
 
   judged : (s t : ℕ) → (Outside m K s t → ⊥) → (m.apart s t ≡ true → ⊥) → Judged m s t
-  judged s t inside together = record {
-    first_in = elim (dec_lt s m.sections) [ yes h ↦ h | no h ↦ absurd (inside (inl (omega arith))) ];
-    second_in = elim (dec_lt t m.sections) [ yes h ↦ h | no h ↦ absurd (inside (inr (omega arith))) ];
-    together = elim (cases_Bool (m.apart s t)) [ inl a ↦ absurd (together a) | inr a ↦ a ];
-  }
+  judged s t inside together = record { first_in = grind arith; second_in = grind arith; together = false_from_ne_true _ together }
 
   fits : (e : Side) (σ : State) (s t v : ℕ) → Sound m K σ → Judged m s t → (Unfit m K e σ s t v → ⊥) → Fits m K e (side_of e σ) s t v
   fits Upper σ s t v sound j h = record { judged = j; tight = omega arith; top = omega (arith, sound.upper.bounded s t j.first_in j.second_in) }
-  fits Lower σ s t v sound j h = record {
-    judged = j;
-    tight = elim (dec_le (σ.lower s t) v) [ yes le ↦ le | no gt ↦ absurd (h (inl (omega arith))) ];
-    top = elim (dec_le v K) [ yes le ↦ le | no gt ↦ absurd (h (inr (omega arith))) ];
-  }
+  fits Lower σ s t v sound j h = record { judged = j; tight = grind arith; top = grind arith }
 
   -- an accepted showing shows the claim
   shown_now : (σ : State) (e : Side) (d : Draft) (b : Marks) (s t : ℕ) (ws : List ℤ) (v : ℕ) → ((q : Refusal F) → Ground m K σ (Show s t ws) q → ⊥)
@@ -110,23 +91,10 @@ module _ {F : Type 0} (m : Meaning F) (lawful : Lawful m) (K : ℕ) where
     | inr (f, w) ↦ absurd (ok (Fault f) (Rules.show_54 e d b f ph w))
   ]
 
-  -- where there is no first claim that is not shown, there is none
-  all_marked : (σ : State) (e : Side) (d : Draft) (b : Marks) → ((q : Refusal F) → Ground m K σ Enter q → ⊥) → σ.phase ≡ showing e d b
-      → (s t : ℕ) → s < 32 → t < 32 → (v : ℕ) → d s t ≡ Some v → b s t ≡ true
-  all_marked σ e d b ok ph =
-      let Fine : ℕ → ℕ → Type 0 = λ s t. s < 32 → t < 32 → (v : ℕ) → d s t ≡ Some v → b s t ≡ true in
-      strong (λ s. (t : ℕ) → Fine s t) (λ s rows. strong (Fine s) (λ t row hs ht v is. elim (cases_Bool (b s t)) [
-        | inl mark ↦ mark
-        | inr none ↦ absurd (ok (Unshown s t) (Rules.enter_61 e d b s t v ph hs ht is none (λ x y w hx hy before has. elim before [
-          | inl lt ↦ rows x lt y hx hy w has
-          | inr (eq, lt) ↦ rw eq (row y lt hs hy w (rw eq at has))
-        ])))
-      ]))
-
   tighter : (e : Side) (f : ℕ → ℕ → ℕ) (d : Draft) → Fit m K e f d → Tighter e m.sections (over K (laid d f)) (over K f)
   tighter e f d fit = record {
     tops = refl;
-    entries = λ s t hs ht. elim (at_laid d f s t) [ inl (v, is, eq) ↦ rw eq (fit s t v is).tight | inr (is, eq) ↦ rw eq (weaker_refl e (f s t)) ];
+    entries = λ s t hs ht. elim (at_laid d f s t) [ inl (v, is, eq) ↦ rw eq (fit s t v is).tight | inr (is, eq) ↦ rw eq (grind arith) ];
   }
 
   -- a draft has no claim of an apart pair
@@ -165,35 +133,32 @@ module _ {F : Type 0} (m : Meaning F) (lawful : Lawful m) (K : ℕ) where
   effect_sound {σ} ok Rules.opens sound = moved σ _ sound (λ s t v e. absurd_option refl e)
   effect_sound {σ} ok (Rules.claimed {s} {t} {v} e d ph) sound =
       let j = judged s t (λ o. ok ClaimOutside (Rules.claim_31 o)) (λ a. ok ClaimApart (Rules.claim_32 a)) in
-      moved σ _ sound (λ x y w is. elim (at_put s t (Some v) d x y) [
-        | inl (p, q, r) ↦ let same : w ≡ v = cc in rw (p, q, same) (fits e σ s t v sound j (λ u. ok ClaimValue (Rules.claim_34 e d ph u)))
-        | inr r ↦ in_phase σ _ sound ph x y w (cc)
-      ])
+      let new = fits e σ s t v sound j (λ u. ok ClaimValue (Rules.claim_34 e d ph u)) in
+      moved σ _ sound (λ x y w is. grind (arith, nat_tests, in_phase σ _ sound ph x y w))
   effect_sound {σ} ok (Rules.closes e d ph) sound = moved σ _ sound (in_phase σ _ sound ph, λ s t v is mark. absurd_bool mark refl)
   effect_sound {σ} ok (Rules.shown {s} {t} {ws} e d b ph) sound =
       let (fit, marked) = in_phase σ _ sound ph in
       moved σ _ sound (
         fit,
         λ x y v is mark. elim (at_put s t true b x y) [
-          | inl (p, q, r) ↦ rw (p, q) (ws, shown_now σ e d b s t ws v ok ph (rw (p, q) at is))
+          | inl (p, q, r) ↦ rw (p, q) (ws, shown_now σ e d b s t ws v ok ph (cc))
           | inr r ↦ marked x y v is (cc)
         ],
       )
   effect_sound {σ} ok (Rules.enters e d b ph) sound =
       let (fit, marked) = in_phase σ _ sound ph in
-      written_sound e d σ sound fit (λ s t v is.
-      let j = (fit s t v is).judged in
-      marked s t v is (all_marked σ e d b ok ph s t (omega (arith, j.first_in, lawful.sections_most)) (omega (arith, j.second_in, lawful.sections_most)) v is))
+      let few : (s : ℕ) → s < m.sections → s < 32 = λ s h. omega (arith, lawful.sections_most) in
+      elim (cases_shown m K σ e d b ph) [
+        | inl (s, t, g) ↦ absurd (ok _ g)
+        | inr all ↦ written_sound e d σ sound fit (λ s t v is. let j = (fit s t v is).judged in marked s t v is (all s t v (few s j.first_in) (few t j.second_in) is))
+      ]
   effect_sound {σ} ok Rules.abandons sound = moved σ _ sound tt
   effect_sound ok Rules.asks sound = sound
 
-  step_sound : {σ : State} {c : Call} {o : Result Answer (Refusal F)} {τ : State} → Step m K σ c o τ → Sound m K σ → Sound m K τ
-  step_sound (refuses r g least) sound = sound
-  step_sound (accepts ok effect) sound = effect_sound ok effect sound
-
   run_sound : {σ : State} {h : List (Page F)} {τ : State} → Run m K σ h τ → Sound m K σ → Sound m K τ
   run_sound rest sound = sound
-  run_sound (turn step run) sound = run_sound run (step_sound step sound)
+  run_sound (turn (refuses r g least) run) sound = run_sound run sound
+  run_sound (turn (accepts ok effect) run) sound = run_sound run (effect_sound ok effect sound)
 
   pub always_sound : InRange K → (σ : State) (h : List (Page F)) → Run m K (fresh m K) h σ → Sound m K σ
   always_sound k σ h run = run_sound run (fresh_sound k)

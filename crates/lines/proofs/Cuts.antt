@@ -1,53 +1,59 @@
 -- The first field, and the blanks before it.
-use Rattle.std.proofs.Common.{◌≡◌, ℕ, zero, suc, ◌<◌, ◌≤◌, true, false, List, [], ◌∷◌, length, get_or, take, drop, sym, refl, ap, ◌∙◌, ⊎_elim, add-zero, arith, length-drop, get_or-drop}
-use Rattle.std.proofs.lemmas.Bool.{cases_Bool}
+use Rattle.std.proofs.Common.{◌≡◌, ℕ, ◌<◌, true, false, not, List, [], ◌∷◌, length, take, drop, None, Some, position, unwrap_or, refl, ap, ◌∙◌, ⊎_elim, arith, length-drop}
+use Rattle.std.specs.List.{position_or_len}
+use Rattle.std.proofs.Math.Numerals.{one-add}
+use Rattle.std.proofs.lemmas.Bool.{cases_Bool, not-true}
+use Rattle.std.proofs.lemmas.Bool.Decides.{nat_tests}
+use Rattle.std.proofs.lemmas.List.Sums.{prefix_len-le-length}
 use Rattle.lines.specs.Fields.{blank, begins, extended, fields}
 
--- blanks before the first field make no difference
-pub fields_skip : (bs : List ℕ) (n : ℕ) → n ≤ length bs → ((k : ℕ) → k < n → blank (get_or bs k 0) ≡ true) → fields bs ≡ fields (drop n bs)
-unfolding fields
-fields_skip bs zero h all = refl
-fields_skip [] (suc n) h all = refl
-fields_skip (b ∷ bs) (suc n) h all = rw (all 0 (omega arith)) (fields_skip bs n (omega arith) (λ k l. all (suc k) (omega arith)))
+-- where the first field starts, and where the one at the front stops
+abbrev start : List ℕ → ℕ
+start bs = position_or_len (λ b. not (blank b)) bs
 
-pub fields_none : (bs : List ℕ) → length bs ≡ 0 → fields bs ≡ []
+abbrev stop : List ℕ → ℕ
+stop bs = position_or_len blank bs
+
+-- blanks before the first field make no difference
+fields_start : (bs : List ℕ) → fields bs ≡ fields (drop (start bs) bs)
 unfolding fields
-fields_none [] e = refl
-fields_none (b ∷ bs) e = absurd (omega arith)
+fields_start [] = refl
+fields_start (b ∷ bs) =
+    ⊎_elim (λ (yes : blank b ≡ true). rw (yes, one-add) (fields_start bs)) (λ (none : blank b ≡ false). rw (none, none)) (cases_Bool (blank b))
+
+begins_start : (bs : List ℕ) → start bs < length bs → begins (drop (start bs) bs) ≡ true
+begins_start [] h = absurd (omega arith)
+begins_start (b ∷ bs) h =
+    ⊎_elim (λ (yes : blank b ≡ true). let k = rw yes at h in rw (yes, one-add) (begins_start bs (omega arith))) (λ (none : blank b ≡ false). rw (none, none)) (cases_Bool (blank b))
 
 joins : (b : ℕ) (bs : List ℕ) → blank b ≡ false → begins bs ≡ true → fields (b ∷ bs) ≡ extended b (fields bs)
 unfolding fields
 joins b bs here next = rw (here, next) refl
 
-alone : (b : ℕ) (bs : List ℕ) → blank b ≡ false → begins bs ≡ false → fields (b ∷ bs) ≡ (b ∷ []) ∷ fields bs
-unfolding fields
-alone b bs here next = rw (here, next) refl
-
-ends : (bs : List ℕ) → (0 < length bs → blank (get_or bs 0 0) ≡ false → ⊥) → begins bs ≡ false
-ends [] stops = refl
-ends (b ∷ bs) stops = ⊎_elim (λ yes. rw yes refl) (λ none. absurd (stops (omega arith) none)) (cases_Bool (blank b))
-
 -- the bytes before the first blank are a field, if there are some
-pub fields_cut : (bs : List ℕ) (n : ℕ) → 0 < n → n ≤ length bs
-    → ((k : ℕ) → k < n → blank (get_or bs k 0) ≡ false)
-    → (n < length bs → blank (get_or bs n 0) ≡ false → ⊥)
-    → fields bs ≡ take n bs ∷ fields (drop n bs)
-fields_cut bs zero some h all stops = absurd (omega arith)
-fields_cut [] (suc n) some h all stops = absurd (omega arith)
-fields_cut (b ∷ bs) (suc zero) some h all stops = alone b bs (all 0 (omega arith)) (ends bs (λ l. stops (omega arith)))
-fields_cut (b ∷ []) (suc (suc n)) some h all stops = absurd (omega arith)
-fields_cut (b ∷ a ∷ bs) (suc (suc n)) some h all stops =
-    joins b (a ∷ bs) (all 0 (omega arith)) (rw (all 1 (omega arith)) refl)
-    ∙ ap (extended b) (fields_cut (a ∷ bs) (suc n) (omega arith) (omega arith) (λ k l. all (suc k) (omega arith)) (λ l. stops (omega arith)))
-
--- bytes after all blanks begin with a field
-pub not_empty : (bs rest : List ℕ) (n m : ℕ) → rest ≡ drop n bs → 0 < length rest
-    → (n < length bs → blank (get_or bs n 0) ≡ true → ⊥)
-    → (m < length rest → blank (get_or rest m 0) ≡ false → ⊥)
-    → 0 < m
-not_empty bs rest n zero is some stops starts =
+fields_stop : (b : ℕ) (bs : List ℕ) → blank b ≡ false → fields (b ∷ bs) ≡ take (stop (b ∷ bs)) (b ∷ bs) ∷ fields (drop (stop (b ∷ bs)) (b ∷ bs))
+unfolding fields
+fields_stop b [] here = rw here refl
+fields_stop b (a ∷ bs) here =
     ⊎_elim
-    (λ yes. absurd (stops (omega (arith, ap length is, length-drop n bs)) (sym (ap (λ l. blank (get_or l 0 0)) is ∙ ap blank (get_or-drop n bs 0 0 ∙ ap (λ i. get_or bs i 0) (add-zero n))) ∙ yes)))
-    (λ none. absurd (starts some none))
-    (cases_Bool (blank (get_or rest 0 0)))
-not_empty bs rest n (suc m) is some stops starts = omega arith
+    (λ (yes : blank a ≡ true). rw (here, yes, yes) refl)
+    (λ (none : blank a ≡ false). joins b (a ∷ bs) here (rw none refl) ∙ ap (extended b) (fields_stop a bs none) ∙ rw (here, one-add (stop (a ∷ bs))) refl)
+    (cases_Bool (blank a))
+
+fields_none : (bs : List ℕ) → length bs ≡ 0 → fields bs ≡ []
+unfolding fields
+fields_none [] e = refl
+fields_none (b ∷ bs) e = absurd (omega arith)
+
+pub none_starts : (bs : List ℕ) → position (λ b. not (blank b)) bs ≡ None → fields bs ≡ []
+none_starts bs e = grind (arith, nat_tests, fields_start bs, fields_none (drop (start bs) bs), length-drop (start bs) bs)
+
+pub some_starts : (bs : List ℕ) (n : ℕ) → position (λ b. not (blank b)) bs ≡ Some n → (fields bs ≡ fields (drop n bs)) × (begins (drop n bs) ≡ true)
+some_starts bs n e = grind (arith, nat_tests, fields_start bs, begins_start bs)
+
+pub field_stops : (bs : List ℕ) → begins bs ≡ true → (n : ℕ) → n ≡ unwrap_or (position blank bs) (length bs) → (fields bs ≡ take n bs ∷ fields (drop n bs)) × (0 < n)
+field_stops [] e n is = cc
+field_stops (b ∷ bs) e n is =
+    let here : blank b ≡ false = not-true (blank b) e in
+    let same : n ≡ stop (b ∷ bs) = grind (arith, nat_tests, prefix_len-le-length (λ b. not (blank b)) (b ∷ bs)) in
+    rw same (fields_stop b bs here, rw here (omega arith))

@@ -1,4 +1,3 @@
 pub mod Cuts
 pub mod Values
 pub mod Words
-pub mod Weighings

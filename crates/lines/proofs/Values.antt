@@ -1,10 +1,9 @@
 -- The value of a numeral, digit by digit.
-use Rattle.std.proofs.Common.{◌≡◌, ℕ, ◌+◌, ◌-◌, ◌*◌, ◌<◌, ◌≤◌, true, false, List, [], ◌∷◌, length, get_or, take, drop, pos, neg_ℤ, Some, None, Option, sym, refl, ap, ◌∙◌, ⊎_elim, arith, rules}
-use Rattle.std.specs.Option.{option_map}
+use Rattle.std.proofs.Common.{◌≡◌, ℕ, ◌+◌, ◌-◌, ◌*◌, ◌<◌, ◌≤◌, true, false, List, [], ◌∷◌, length, get_or, drop, Some, None, refl, ap, ◌∙◌, ⊎_elim, arith}
 use Rattle.std.specs.Char.{is_ascii_digit}
-use Rattle.std.proofs.lemmas.List.{at_drop_more, at_drop_all, take_rest}
-use Rattle.std.proofs.lemmas.Bool.{cases_Bool, lt-leb, le-leb, leb-true, eq-eqb}
-use Rattle.lines.specs.Numerals.{digits_after, numeral, at_most, word_of}
+use Rattle.std.proofs.lemmas.List.{at_drop_more, at_drop_all}
+use Rattle.std.proofs.lemmas.Bool.{cases_Bool, lt-leb, le-leb}
+use Rattle.lines.specs.Numerals.{digits_after, at_most}
 
 -- a value never falls, so that too great a start is too great
 pub too_great : (most n : ℕ) (bs : List ℕ) → most < n → at_most most (digits_after n bs) ≡ None
@@ -26,13 +25,3 @@ module _ (n : ℕ) (bs : List ℕ) (i : ℕ) (h : i < length bs) where
 pub digits_all : (most n : ℕ) (bs : List ℕ) (i : ℕ) → n ≤ most → length bs ≤ i → at_most most (digits_after n (drop i bs)) ≡ Some n
 unfolding digits_after
 digits_all most n bs i small h = ap (at_most most) (at_drop_all (digits_after n) bs i h) ∙ rw (le-leb n most small) refl
-
-pub at_most_bound : (most n : ℕ) (o : Option ℕ) → Some n ≡ at_most most o → n ≤ most
-at_most_bound most n o e = search (rules, leb-true)
-
--- a word that begins with a minus
-pub word_minus : (bs : List ℕ) → get_or bs 0 0 ≡ 45 → (o : Option ℕ)
-    → o ≡ at_most 2147483648 (numeral (take (length bs - 1) (drop 1 bs))) → word_of bs ≡ option_map (λ n. neg_ℤ (pos n)) o
-word_minus [] minus o e = absurd (omega arith)
-word_minus (b ∷ bs) minus o e =
-    rw (eq-eqb b 45 minus) (ap (option_map (λ n. neg_ℤ (pos n))) (sym (e ∙ ap (λ l. at_most 2147483648 (numeral l)) (take_rest (b ∷ bs) 1))))

@@ -9,10 +9,6 @@ use Rattle.lines.specs.Reading.{◌then◌, words_from}
 abbrev pub onto : List ℤ → Result (List ℤ) Malformed → Result (List ℤ) Malformed
 onto ws r = r then λ vs. Ok (ws ++ vs)
 
-pub onto_none : (ws : List ℤ) → ws ≡ [] → (r : Result (List ℤ) Malformed) → onto ws r ≡ r
-onto_none ws e (Ok vs) = rw e refl
-onto_none ws e (Err x) = refl
-
 onto_push : (ws : List ℤ) (w : ℤ) (r : Result (List ℤ) Malformed) → onto (ws ++ w ∷ []) r ≡ onto ws (r then λ vs. Ok (w ∷ vs))
 onto_push ws w (Ok vs) = ap Ok (append_assoc ws (w ∷ []) vs)
 onto_push ws w (Err x) = refl

@@ -1,5 +1,5 @@
 -- What a line asks for, or what is wrong with it.
-use Rattle.std.specs.Prelude.{ℕ, ◌+◌, Bool, cond, List, [], ◌∷◌, drop, ℤ, Some, None, Ok, Err, codes, Option, Result, ◌==◌, slice_index}
+use Rattle.std.specs.Prelude.{ℕ, ◌+◌, Bool, true, cond, List, [], ◌∷◌, drop, ℤ, Some, None, Ok, Err, codes, Option, Result, ◌==◌, slice_index}
 use Rattle.std.specs.Option.{ok_or}
 use Rattle.std.specs.Str.{bytes_eq}
 use Rattle.chart.specs.declared.side.Side.{Side}
@@ -49,6 +49,11 @@ weigh_read fs =
 -- whether a line whose first field is this one is passed over: it begins with #
 abbrev pub comment : List ℕ → Bool
 comment f = slice_index f 0 == 35
+
+-- whether a line of these fields is passed over: it has none, or begins with #
+abbrev pub passed_over : List (List ℕ) → Bool
+passed_over [] = true
+passed_over (f ∷ fs) = comment f
 
 abbrev pub fields_read : List (List ℕ) → Result (Option Command) Malformed
 fields_read [] = Ok None

@@ -1,10 +1,11 @@
 ghost use Rattle.std.specs.Prelude.{◌≡◌, Some};
-ghost use Rattle.lines.specs.Texts.{command_text, side_text};
+ghost use Rattle.lines.specs.Texts.{command_text};
 
 use chart::side::Side;
 use std::fmt;
 
 /// What a line asks for.
+// Not that of `commands`: a reader of weighings would then answer calls too, which no line makes here.
 #[derive(Clone, Copy, PartialEq, Eq, Debug)]
 pub enum Command {
     /// `weigh upper|lower S T WORDS..`: the showing of those words is to be weighed for the sections `s` and `t`.
@@ -16,20 +17,7 @@ impl fmt::Display for Command {
 
     fn fmt<W: fmt::Write>(&self, f: &mut fmt::Formatter<W>) -> fmt::Result {
         match *self {
-            Command::Weigh { side, s, t } => {
-                let side = side_name(side);
-                write!(f, "weigh {side} {s} {t}")
-            }
+            Command::Weigh { side, s, t } => write!(f, "weigh {side} {s} {t}"),
         }
-    }
-}
-
-/// The field that names a side.
-fn side_name(side: Side) -> &'static str
-    ensures { result.now ≡ side_text side }
-{
-    match side {
-        Side::Upper => "upper",
-        Side::Lower => "lower",
     }
 }

@@ -11,3 +11,4 @@ pub mod fields;
 pub mod line;
 pub mod malformed;
 pub mod numerals;
+pub mod parts;

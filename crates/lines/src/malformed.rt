@@ -12,6 +12,8 @@ pub enum Malformed {
     UnknownCommand,
     /// The command asks for more fields.
     TooFewFields,
+    /// The command takes fewer fields.
+    TooManyFields,
     /// This field is neither `upper` nor `lower`.
     NotASide(usize),
     /// This field is no decimal numeral of a number below 2^32.
@@ -29,6 +31,7 @@ impl fmt::Display for Malformed {
         match self {
             Malformed::UnknownCommand => write!(f, "the first field is no command"),
             Malformed::TooFewFields => write!(f, "there are too few fields"),
+            Malformed::TooManyFields => write!(f, "there are too many fields"),
             Malformed::NotASide(k) => write!(f, "field {k} is neither upper nor lower"),
             Malformed::NotANumber(k) => {
                 write!(f, "field {k} is not a whole number from 0 to 4294967295")
@@ -48,6 +51,6 @@ impl<T: Drop> From<AllocFailed<T>> for Malformed {
     ghost from_gives = { λ _ r. r ≡ Memory };
 
     fn from(_e: AllocFailed<T>) -> Malformed {
-        Malformed::Memory
+        Self::Memory
     }
 }

@@ -8,6 +8,7 @@ fn read_numeral(field: &[u8], most: u32) -> Option<u32>
     if field.is_empty() {
         return None;
     }
+    // Not `parse`, which takes a plus sign; a `try_fold`'s closure would hold the same two tests.
     let mut value = 0;
     for byte in field {
         if !byte.is_ascii_digit() {
@@ -18,6 +19,7 @@ fn read_numeral(field: &[u8], most: u32) -> Option<u32>
             return None;
         }
     }
+    // `as`, here and below: the value is at most `most`.
     Some(value as u32)
 }
 

@@ -1,6 +1,5 @@
 -- Calls that do not suit the phase.
-use Rattle.std.proofs.Common.{◌≡◌, Some, None, Err, Option, refl, ap}
-use Rattle.chart.specs.declared.kind.Chart.{Ghosts}
+use Rattle.std.proofs.Common.{◌≡◌, Some, None, Err, Option, refl}
 use Rattle.chart.specs.Meaning.{Meaning}
 use Rattle.history.specs.declared.refusal.Refusal.{Refusal}
 use Rattle.history.specs.declared.refusal.Refusal.TheVariants as refusal
@@ -12,8 +11,6 @@ use Rattle.register.specs.declared.call.Call.TheVariants.{Open, Claim, Close, Sh
 use Rattle.register.specs.Calls.{call_of}
 use Rattle.register.specs.Phases.{phase_of}
 use Rattle.register.specs.declared.tables.Tables.{Tables}
-use Rattle.register.specs.declared.register.Register.{Register}
-use Rattle.register.specs.Held.{held, top_of}
 use Rattle.register.specs.Tables.{top_in, state}
 use Rattle.history.proofs.Cases.{never}
 use Rattle.register.proofs.Steps.{open_busy, claim_idle, close_idle, show_idle, enter_idle, abandon_resting}
@@ -67,18 +64,3 @@ module _ {F : Type 0} (m : Meaning F) (ts : Tables) where
   idle Resting Abandon r h = taken Resting Abandon _ r h (abandon_resting m (top_in ts) _ refl)
   idle (Claiming c) Abandon r h = nothing r h
   idle (Showing c b) Abandon r h = nothing r h
-
--- a register that is as another was
-pub record Kept {C F : Type 0} {G : Ghosts C F} (r' r : Register C F G) : Type 0 where
-  pub chart : r'.chart ≡ r.chart
-  pub tables : r'.tables ≡ r.tables
-  pub phase : r'.phase ≡ r.phase
-
-pub kept_top : {C F : Type 0} {G : Ghosts C F} {r' r : Register C F G} → Kept r' r → top_of r' ≡ top_of r
-kept_top same = ap top_in same.tables
-
-pub kept_held : {C F : Type 0} {G : Ghosts C F} {r' r : Register C F G} → Kept r' r → held r' ≡ held r
-kept_held {r' = r'} {r = r} same = rw (same.tables, same.phase)
-
-pub kept_idle : {C F : Type 0} {G : Ghosts C F} (m : Meaning F) (r' r : Register C F G) (k : Call) (q : Refusal F) → Kept r' r → unsuited r.phase k ≡ Some q → Step m (top_of r) (held r) (call_of k) (Err q) (held r')
-kept_idle m r' r k q same h = rw (kept_held same) (idle m r.tables r.phase k q h)

@@ -58,7 +58,7 @@ module _ {F : Type 0} (m : Meaning F) (ts : Tables) (p : Phase) (k : Call) where
     pub entered_first : (q : ℕ × ℕ) → First (values_of d) (marks_of b) (Some q) → Step m (top_in ts) before (call_of k) (Err (Unshown q.0 q.1)) (state ts (phase_of (Showing d b)))
     entered_first q first = rw (is, ph) (enter_first m (top_in ts) (state ts (phase_of (Showing d b))) d.side (values_of d) (marks_of b) refl q first)
 
-    pub entered : (ts' : Tables) (n : ℕ) → First (values_of d) (marks_of b) None → state ts' resting ≡ written d.side (values_of d) (state ts resting) → n ≡ claims (values_of d)
-        → Step m (top_in ts) before (call_of k) (Ok (count n)) (state ts' (phase_of Resting))
-    entered ts' n none ets en =
-        rw (is, ets, en, written_any d.side (values_of d) ts resting (phase_of p)) (enter_all m (top_in ts) before d.side (values_of d) (marks_of b) (ap phase_of ph) none)
+    pub entered : (ts' : Tables) (p' : Phase) (n : ℕ) → First (values_of d) (marks_of b) None → state ts' resting ≡ written d.side (values_of d) (state ts resting) → p' ≡ Resting → n ≡ claims (values_of d)
+        → Step m (top_in ts) before (call_of k) (Ok (count n)) (state ts' (phase_of p'))
+    entered ts' p' n none ets rests en =
+        rw (is, rests, ets, en, written_any d.side (values_of d) ts resting (phase_of p)) (enter_all m (top_in ts) before d.side (values_of d) (marks_of b) (ap phase_of ph) none)

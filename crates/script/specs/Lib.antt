@@ -1,3 +1,3 @@
-pub mod Outcomes
+pub mod Answers
 pub mod Playing
 pub mod Lines

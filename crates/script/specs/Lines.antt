@@ -1,14 +1,18 @@
--- How the outcome of a command is written.
+-- How the answer to a command, or why it gets none, is written.
 use Rattle.std.specs.Prelude.{ℕ, List, ◌++◌, Some, codes, decimal, Option}
 use Rattle.std.specs.Fmt.{option_append}
 use Rattle.history.specs.Lines.{line, verdict_text}
-use Rattle.script.specs.declared.outcome.Outcome.{Outcome}
-use Rattle.script.specs.declared.outcome.Outcome.TheVariants.{Count, Entries, Refused, Claim, Fault}
+use Rattle.script.specs.declared.answer.Answer.{Answer}
+use Rattle.script.specs.declared.answer.Answer.TheVariants.{Count, Entries, Claim}
+use Rattle.script.specs.declared.rejection.Rejection.{Rejection}
+use Rattle.script.specs.declared.rejection.Rejection.TheVariants.{Refused, Fault}
+
+abbrev pub answer_text : Answer → List ℕ
+answer_text (Count n) = codes "= " ++ decimal n
+answer_text (Entries l u v) = codes "= " ++ (decimal l ++ (codes " " ++ (decimal u ++ (codes " " ++ verdict_text v))))
+answer_text (Claim c) = codes "= " ++ decimal c
 
 -- the first argument tells what is written of a fault
-abbrev pub outcome_text : {F : Type 0} → (F → Option (List ℕ)) → Outcome F → Option (List ℕ)
-outcome_text fault (Count n) = Some (codes "= " ++ decimal n)
-outcome_text fault (Entries l u v) = Some (codes "= " ++ (decimal l ++ (codes " " ++ (decimal u ++ (codes " " ++ verdict_text v)))))
-outcome_text fault (Refused r) = option_append (Some (codes "refused ")) (line fault r)
-outcome_text fault (Claim c) = Some (codes "= " ++ decimal c)
-outcome_text fault (Fault f) = option_append (Some (codes "fault ")) (fault f)
+abbrev pub rejection_text : {F : Type 0} → (F → Option (List ℕ)) → Rejection F → Option (List ℕ)
+rejection_text fault (Refused r) = option_append (Some (codes "refused ")) (line fault r)
+rejection_text fault (Fault f) = option_append (Some (codes "fault ")) (fault f)

@@ -1,6 +1,7 @@
-//! The commands of a script, played against a register: what each comes to, and how many calls are accepted and refused.
+//! The commands of a script, played against a register: what each answers, or why it gets no answer.
 
 #![tactic(auto)]
 
-pub mod outcome;
+pub mod answer;
 pub mod play;
+pub mod rejection;

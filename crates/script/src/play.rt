@@ -1,13 +1,12 @@
 ghost use Rattle.std.specs.Prelude.{◌≡◌};
 ghost use Rattle.register.specs.Held.{held, top_of};
-ghost use Rattle.register.specs.Calls.{counted};
-ghost use Rattle.script.specs.Outcomes.{outcome_of};
-ghost use Rattle.script.specs.Playing.{Plays};
+ghost use Rattle.register.specs.Calls.{call_of};
+ghost use Rattle.script.specs.Playing.{ComesTo, Plays};
 
-use crate::outcome::Outcome;
+use crate::answer::Answer;
+use crate::rejection::Rejection;
 use chart::kind::Chart;
 use commands::command::Command;
-use history::refusal::Refusal;
 use register::call::Call;
 use register::register::Register;
 
@@ -16,43 +15,41 @@ pub fn play<C: Chart>(
     register: &mut Register<C>,
     command: Command,
     words: &[i32],
-) -> Outcome<C::Fault>
+) -> Result<Answer, Rejection<C::Fault>>
     ensures chart { register.new.chart ≡ register.old.chart }
     ensures top { top_of register.new ≡ top_of register.old }
     ensures plays { Plays (C.Chart.meaning register.old.chart) (top_of register.old) (held register.old) command words.now result (held register.new) }
 {
+    // `as`: no `From` makes a usize of a u32.
     match command {
-        Command::Open { side } => counted(register.call(Call::Open(side))),
+        Command::Open { side } => make(register, Call::Open(side)),
         Command::Claim { s, t, value } => {
             let (s, t) = (s as usize, t as usize);
-            counted(register.call(Call::Claim { s, t, value }))
+            make(register, Call::Claim { s, t, value })
         }
-        Command::Close => counted(register.call(Call::Close)),
+        Command::Close => make(register, Call::Close),
         Command::Show { s, t } => {
             let (s, t) = (s as usize, t as usize);
-            counted(register.call(Call::Show { s, t, words }))
+            make(register, Call::Show { s, t, words })
         }
-        Command::Enter => counted(register.call(Call::Enter)),
-        Command::Abandon => counted(register.call(Call::Abandon)),
-        Command::Ask { s, t } => match register.ask(s as usize, t as usize) {
-            Ok((lower, upper, verdict)) => Outcome::Entries(lower, upper, verdict),
-            Err(refusal) => Outcome::Refused(refusal),
-        },
-        Command::Weigh { side, s, t } => {
-            match register.weigh(side, s as usize, t as usize, words) {
-                Ok(claim) => Outcome::Claim(claim),
-                Err(fault) => Outcome::Fault(fault),
-            }
+        Command::Enter => make(register, Call::Enter),
+        Command::Abandon => make(register, Call::Abandon),
+        Command::Ask { s, t } => {
+            let (lower, upper, verdict) = register.ask(s as usize, t as usize)?;
+            Ok(Answer::Entries(lower, upper, verdict))
         }
+        Command::Weigh { side, s, t } => register
+            .weigh(side, s as usize, t as usize, words)
+            .map(Answer::Claim)
+            .map_err(Rejection::Fault),
     }
 }
 
-/// What a call comes to that answers with a count.
-fn counted<F>(outcome: Result<u32, Refusal<F>>) -> Outcome<F>
-    ensures { result ≡ outcome_of (counted outcome) }
+/// Makes a call that answers with a count.
+fn make<C: Chart>(register: &mut Register<C>, call: Call<'_>) -> Result<Answer, Rejection<C::Fault>>
+    ensures chart { register.new.chart ≡ register.old.chart }
+    ensures top { top_of register.new ≡ top_of register.old }
+    ensures comes { ComesTo (C.Chart.meaning register.old.chart) (top_of register.old) (held register.old) (call_of call.entry) result (held register.new) }
 {
-    match outcome {
-        Ok(n) => Outcome::Count(n),
-        Err(refusal) => Outcome::Refused(refusal),
-    }
+    Ok(Answer::Count(register.call(call)?))
 }

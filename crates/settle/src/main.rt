@@ -8,11 +8,11 @@ ghost use Rattle.lines.specs.Numerals.{number_of};
 
 mod failure;
 mod session;
-mod tables;
 
 use chart::top::{Top, TopRefusal};
 use failure::Failure;
 use lines::numerals::read_number;
+use register::register::Register;
 use session::settle_lines;
 use std::fs::File;
 use std::io::{BufReader, BufWriter, Read, Write};
@@ -44,37 +44,34 @@ fn file_bytes(rt: &HostRuntime, path: &str) -> io::Result<Vec<u8>> {
 
 /// The chart in a file.
 fn read_chart(rt: &HostRuntime, path: String) -> Result<Weighted, Failure> {
+    // Not `map_err`: its closure would take the path, which the next refusal names too.
     let bytes = match file_bytes(rt, path.as_str()) {
         Ok(bytes) => bytes,
         Err(error) => return Err(Failure::Unreadable(path, error)),
     };
     let mut chart = Weighted::fresh();
-    match chart.read(bytes.as_slice()) {
-        Ok(_) => Ok(chart),
-        Err(refusal) => Err(Failure::Chart(path, refusal)),
-    }
+    chart
+        .read(bytes.as_slice())
+        .map_err(|refusal| Failure::Chart(path, refusal))?;
+    Ok(chart)
 }
 
 /// The top that a text writes.
 fn read_top(text: &str) -> Result<Top, Failure>
     ensures { MatchResult result (λ top. number_of text.now ≡ Some top.value) (λ _. (k : ℕ) → number_of text.now ≡ Some k → InRange k → ⊥) }
 {
-    let Some(number) = read_number(text.as_bytes()) else {
-        return Err(Failure::Top);
-    };
-    match Top::new(u64::from(number)) {
-        Ok(top) => Ok(top),
-        Err(TopRefusal::OutOfRange) => Err(Failure::Top),
-    }
+    let number = read_number(text.as_bytes()).ok_or(TopRefusal::OutOfRange)?;
+    Ok(Top::new(u64::from(number))?)
 }
 
 fn run(rt: &HostRuntime) -> Result<(), Failure> {
     let (path, top) = arguments(rt)?;
     let chart = read_chart(rt, path)?;
     let top = read_top(top.as_str())?;
-    let mut input = BufReader::new(rt.alloc(), rt.stdin())?;
+    let register = Register::new(chart, top);
+    let input = BufReader::new(rt.alloc(), rt.stdin())?;
     let mut out = BufWriter::new(rt.alloc(), rt.stdout())?;
-    let result = settle_lines(rt.alloc(), &chart, top, &mut input, &mut out);
+    let result = settle_lines(rt.alloc(), &register, input, &mut out);
     out.flush()?;
     result
 }

@@ -1,8 +1,5 @@
 mod Tally
 mod Triples
-mod Rounding
 mod Near
 mod Gains
 mod Scan
-mod Filling
-mod Reading

@@ -1,5 +1,5 @@
 -- Signed numbers within a bound of 0.
-use Rattle.std.proofs.Common.{ℕ, zero, suc, ◌+◌, ◌*◌, ◌<◌, ◌≤◌, ℤ, pos, ◌*ℤ◌, mul-le-mul_left, zero-mul, mul-add, arith}
+use Rattle.std.proofs.Common.{ℕ, zero, suc, ◌+◌, ◌*◌, ◌<◌, ◌≤◌, ℤ, pos, ◌*ℤ◌, mul-le-mul_left, arith}
 use borrow.Author.Differences.{up, down, sum_is_lem, product_is}
 use Rattle.finite.specs.Sums.{sum, sumℤ}
 
@@ -8,7 +8,7 @@ abbrev pub Near : ℕ → ℤ → Type 0
 Near m z = (up z ≤ down z + m) × (down z ≤ up z + m)
 
 pub near_product : (p m : ℕ) (w : ℤ) → Near m w → Near (p * m) (pos p *ℤ w)
-near_product p m w h = omega (arith, product_is (pos p) w, zero-mul (up w), zero-mul (down w), mul-le-mul_left p h.0, mul-le-mul_left p h.1, mul-add p (down w) m, mul-add p (up w) m)
+near_product p m w h = omega (arith, product_is (pos p) w, mul-le-mul_left p h.0, mul-le-mul_left p h.1)
 
 pub near_sum : (n : ℕ) (g : ℕ → ℕ) (f : ℕ → ℤ) → ((i : ℕ) → i < n → Near (g i) (f i)) → Near (sum n g) (sumℤ n f)
 near_sum zero g f h = omega arith

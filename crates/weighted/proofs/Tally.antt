@@ -1,7 +1,8 @@
 -- Amounts that are added up by section, one after another.
-use Rattle.std.proofs.Common.{◌≡◌, ℕ, ◌+◌, ◌*◌, ◌<◌, ◌≤◌, cond, eqb, List, length, get_or, set, replicate, sym, refl, ◌∙◌, ⊎_elim, add-one, arith}
+use Rattle.std.proofs.Common.{◌≡◌, ℕ, ◌+◌, ◌*◌, ◌<◌, ◌≤◌, cond, eqb, List, length, get_or, set, replicate, refl, ◌∙◌, add-one, arith}
 use Rattle.std.proofs.lemmas.List.{get_or-replicate, get_or-set_same, get_or-set_other, length-set}
-use Rattle.std.proofs.lemmas.Bool.{cases_eq, cond-true, cond-false, cond_both, eq-eqb, ne_eqb}
+use Rattle.std.proofs.lemmas.Bool.{cases_eq}
+use Rattle.std.proofs.lemmas.Bool.Decides.{nat_tests}
 use Rattle.finite.specs.Sums.{sum}
 
 -- after j amounts of at most 10,000 each, what stands at each section x is the sum of those at x
@@ -23,12 +24,9 @@ tallied_more got place amount j t inside low =
     let u = place j in
     let a = amount j in
     let step : (x : ℕ) → x < 32 → get_or (set got u (get_or got u 0 + a)) x 0 ≡ get_or got x 0 + cond (eqb u x) a 0
-    = λ x k. ⊎_elim
-    (λ e. rw (← e, get_or-set_same got u (get_or got u 0 + a) 0 (omega (arith, t.long)), cond-true (eqb u u) a 0 (eq-eqb u u refl)) refl)
-    (λ d. rw (get_or-set_other got u x (get_or got u 0 + a) 0 (λ e. d (sym e)), cond-false (eqb u x) a 0 (ne_eqb u x d)) (omega arith))
-    (cases_eq u x) in
+    = λ x k. let either = cases_eq x u in grind (arith, nat_tests, t.long, get_or-set_same, get_or-set_other) in
     record {
       long = length-set _ _ _ ∙ t.long;
       at = λ x k. rw add-one (omega (arith, step x k, t.at x k));
-      few = λ x k. omega (arith, step x k, t.few x k, cond_both (eqb u x) a 0 (λ y. y ≤ 10000) (λ _. low) (λ _. omega arith));
+      few = λ x k. let e = step x k in let h = t.few x k in grind (arith, nat_tests);
     }

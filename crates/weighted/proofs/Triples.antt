@@ -1,52 +1,45 @@
 -- The triples of a pairing, one after another.
-use Rattle.std.proofs.Common.{◌≡◌, ℕ, ◌+◌, ◌*◌, ◌%◌, ◌<◌, ◌≤◌, true, false, List, length, ℤ, pos, ◌+ℤ◌, Some, None, sym, refl, ap, ◌∙◌, ⊎_elim, arith, w64, SFits, to_z, of_z}
-use borrow.Author.Differences.{fits_in}
+use Rattle.std.proofs.Common.{◌≡◌, ℕ, zero, suc, ◌+◌, ◌-◌, ◌*◌, ◌%◌, ◌<◌, ◌≤◌, false, List, [], length, get_or, drop, ℤ, Some, None, Option, refl, ap, ◌∙◌, ⊎_elim, mul-suc, arith}
 use Rattle.std.specs.Option.{option_map}
-use Rattle.std.proofs.lemmas.Int.{to_z-of_z, to_z_pos}
-use Rattle.std.proofs.lemmas.Bool.{cases_lt, cases_eq, le-ltb}
+use Rattle.std.specs.Simd.{first_chunks}
+use Rattle.std.proofs.lemmas.List.{get_or-take, get_or-drop}
+use Rattle.std.proofs.lemmas.Bool.{cases_lt}
 use Rattle.finite.specs.Search.{least}
-use Rattle.finite.proofs.Search.{least_none, least_found}
+use Rattle.finite.proofs.Search.{least_none_at, least_found, least_at}
 use Rattle.chain.specs.declared.fault.Fault.{Fault}
-use Rattle.chain.specs.declared.fault.Fault.TheVariants.{Amount}
 use Rattle.chain.specs.Chain.{Chain}
+use Rattle.chain.specs.Words.{word}
 use Rattle.chain.specs.Pairing.{triples, bad_word, word_fault}
-use Rattle.weighted.specs.Gathering.{FirstBad}
 
-module _ (c : Chain) (ws : List ℤ) (j : ℕ) where
-  pub third_bad : bad_word c ws (3 * j) ≡ false → bad_word c ws (3 * j + 1) ≡ false → bad_word c ws (3 * j + 2) ≡ true → FirstBad c ws j (Amount (3 * j + 2))
-  third_bad e0 e1 e2 = record {
-    place = 3 * j + 2;
-    from = omega arith;
-    to = omega arith;
-    fault = rw (le-ltb ((3 * j + 2) % 3) 2 (omega arith)) refl;
-    bad = e2;
-    before = λ i l h. ⊎_elim (λ e. rw e e0) (λ d. let e : i ≡ 3 * j + 1 = omega arith in rw e e1) (cases_eq i (3 * j));
-  }
+-- the element i of the chunk j
+pub chunk_at : {X : Type 0} (n k j i : ℕ) (xs : List X) (d : X) → j < k → i < n → get_or (get_or (first_chunks n k xs) j []) i d ≡ get_or xs (n * j + i) d
+chunk_at n zero j i xs d l h = absurd (omega arith)
+chunk_at n (suc k) zero i xs d l h = get_or-take n xs i d h ∙ ap (λ m. get_or xs m d) (omega arith)
+chunk_at n (suc k) (suc j) i xs d l h =
+    chunk_at n k j i (drop n xs) d (omega arith) h ∙ get_or-drop n xs (n * j + i) d ∙ ap (λ m. get_or xs m d) (omega (arith, mul-suc n j))
 
-  -- no word before the triple j is bad
-  abbrev pub Clear : Type 0
-  Clear = (i : ℕ) → i < 3 * j → bad_word c ws i ≡ false
+-- no word before the triple j is bad
+abbrev pub Clear : Chain → List ℤ → ℕ → Type 0
+Clear c ws j = (i : ℕ) → i < 3 * j → bad_word c ws i ≡ false
 
-  pub bad_found : (f : Fault) → j < triples ws → Clear → FirstBad c ws j f → option_map word_fault (least (length ws) (bad_word c ws)) ≡ Some f
-  bad_found f l clear b =
-      rw (least_found (length ws) (bad_word c ws) b.place (omega (arith, b.to))
-      b.bad
-      (λ i h. ⊎_elim (clear i) (λ k. b.before i k h) (cases_lt i (3 * j))))
-      (ap Some (sym b.fault))
+module _ (c : Chain) (ws here : List ℤ) (j : ℕ) (is : (i : ℕ) → i < 3 → word here i ≡ word ws (3 * j + i)) (clear : Clear c ws j) where
+  bad_at : (i : ℕ) → i < 3 → bad_word c ws (3 * j + i) ≡ bad_word c here i
+  bad_at i l =
+      let e : (3 * j + i) % 3 ≡ i % 3 = omega arith in rw (e, is i l) refl
 
-  pub none_bad : length ws % 3 ≡ 0 → triples ws ≤ j → Clear → least (length ws) (bad_word c ws) ≡ None
-  none_bad threes l clear = least_none (length ws) (bad_word c ws) (λ i h. clear i (omega arith))
+  -- the words before the triple are good, and so are its first n
+  good_before : (n : ℕ) → n ≤ 3 → ((i : ℕ) → i < n → bad_word c here i ≡ false) → (k : ℕ) → k < 3 * j + n → bad_word c ws k ≡ false
+  good_before n few good k l =
+      let i = k - 3 * j in
+      ⊎_elim (clear k) (λ h. let at : 3 * j + i ≡ k = omega arith in rw (← at) (bad_at i (omega arith) ∙ good i (omega arith))) (cases_lt k (3 * j))
 
-pub clear_more : (c : Chain) (ws : List ℤ) (j : ℕ) → Clear c ws j → ((i : ℕ) → 3 * j ≤ i → i < 3 * j + 3 → bad_word c ws i ≡ false) → Clear c ws (j + 1)
-clear_more c ws j clear here i l = ⊎_elim (clear i) (λ k. here i k (omega arith)) (cases_lt i (3 * j))
+  pub bad_found : (f : Fault) → j < triples ws → option_map (λ i. word_fault (3 * j + i)) (least 3 (bad_word c here)) ≡ Some f → option_map word_fault (least (length ws) (bad_word c ws)) ≡ Some f
+  bad_found f l e = of (least 3 (bad_word c here)) refl e where
+    of : (o : Option ℕ) → least 3 (bad_word c here) ≡ o → option_map (λ i. word_fault (3 * j + i)) o ≡ Some f → option_map word_fault (least (length ws) (bad_word c ws)) ≡ Some f
+    of (Some i) e h =
+        let at = least_at 3 (bad_word c here) i e in
+        rw (least_found (length ws) (bad_word c ws) (3 * j + i) (omega (arith, at.within)) (bad_at i at.within ∙ at.passes) (good_before i (omega (arith, at.within)) at.before)) h
+    of None e h = absurd (cc h)
 
--- a cost, added to a running sum, as the code computes it with 64 bits
-module _ (S x : ℕ) (few : S ≤ 10240000000000000) (small : x ≤ 10000000000000) where
-  pub cost_is : to_z w64 x ≡ pos x
-  cost_is = to_z_pos w64 x (omega arith)
-
-  pub sum_fits : SFits w64 (pos S +ℤ to_z w64 x)
-  sum_fits = rw cost_is (fits_in w64 (pos (S + x)) (omega arith))
-
-  pub sum_is : to_z w64 (of_z w64 (pos S +ℤ to_z w64 x)) ≡ pos (S + x)
-  sum_is = to_z-of_z w64 (pos S +ℤ to_z w64 x) sum_fits ∙ ap (λ z. pos S +ℤ z) cost_is
+  pub clear_more : least 3 (bad_word c here) ≡ None → Clear c ws (j + 1)
+  clear_more good k l = good_before 3 (omega arith) (least_none_at 3 (bad_word c here) good) k (omega arith)

@@ -2,10 +2,16 @@ ghost use Rattle.std.specs.Prelude.{◌≡◌, ℕ, ◌<◌, ◌≤◌};
 ghost use Rattle.finite.specs.Sums.{sum};
 ghost use Rattle.weighted.specs.Rows.{entry_at};
 
+use chart::table::SECTIONS;
+
+mod file;
 pub mod kind;
 mod pairing;
 mod potentials;
 mod reading;
+
+/// The most words of a showing.
+const LONGEST: usize = 3072;
 
 /// A weighted chart. Row `s` of `rows` has the part of each section, and adds up to `whole`.
 #[derive(Drop)]
@@ -14,8 +20,9 @@ pub struct Weighted {
     a: u16,
     b: u16,
     whole: u16,
-    bands: [u8; 32],
-    rows: [[u16; 32]; 32],
+    // Arrays of 32 beside their length, since a kind uses no heap; two, since nothing uses a section's band and row together.
+    bands: [u8; SECTIONS],
+    rows: [[u16; SECTIONS]; SECTIONS],
     ghost n_least: { 1 ≤ n },
     ghost n_most: { n ≤ 32 },
     ghost a_least: { 1 ≤ a },

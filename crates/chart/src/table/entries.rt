@@ -4,19 +4,19 @@ ghost use Rattle.chart.specs.Starting.{judged_pair, start_entry, start_table};
 
 use crate::kind::Chart;
 use crate::side::Side;
-use crate::table::{CELLS, SECTIONS, Table};
+use crate::table::{CELLS, SECTIONS, Table, cell_index};
 use crate::top::Top;
+use std::array;
 
 impl Table {
     /// The table in which a register of the chart starts on a side.
     pub fn starting<C: Chart>(chart: &C, side: Side, top: Top) -> Table
         ensures { distances result ≡ start_table (C.Chart.meaning chart.now) side top.value }
     {
-        let mut cells = [0; CELLS];
-        for i in 0..CELLS {
-            cells[i] = start_entry(chart, side, top, i / SECTIONS, i % SECTIONS);
+        Table {
+            top,
+            cells: array::from_fn(|i| start_entry(chart, side, top, i / SECTIONS, i % SECTIONS)),
         }
-        Table { top, cells }
     }
 
     /// The number of its top.
@@ -30,10 +30,9 @@ impl Table {
     pub fn entry(&self, s: usize, t: usize) -> u32
         ensures { result ≡ (distances self.now).entry s t }
     {
-        if s < SECTIONS && t < SECTIONS {
-            self.cells[s * SECTIONS + t]
-        } else {
-            self.top()
+        match cell_index(s, t) {
+            Some(i) => self.cells[i],
+            None => self.top(),
         }
     }
 
@@ -41,13 +40,10 @@ impl Table {
     pub fn overlaid(&self, values: &[Option<u32>; CELLS]) -> Table
         ensures { distances result ≡ overlaid values.now (distances self.now) }
     {
-        let mut cells = [0; CELLS];
-        for i in 0..CELLS {
-            cells[i] = capped(values[i], self.cells[i], self.top.value());
-        }
+        let limit = self.top();
         Table {
             top: self.top,
-            cells,
+            cells: array::from_fn(|i| capped(values[i], self.cells[i], limit)),
         }
     }
 }
@@ -56,18 +52,7 @@ impl Table {
 fn capped(given: Option<u32>, old: u32, limit: u32) -> u32
     ensures { result ≡ capped given old limit }
 {
-    match given {
-        Some(v) if v <= limit => v,
-        Some(_) => limit,
-        None => old,
-    }
-}
-
-/// Whether two sections are a judged pair.
-fn judges<C: Chart>(chart: &C, s: usize, t: usize) -> bool
-    ensures { result ≡ judged_pair (C.Chart.meaning chart.now) s t }
-{
-    s < chart.sections() && t < chart.sections() && !chart.apart(s, t)
+    given.map_or(old, |v| v.min(limit))
 }
 
 /// The entry with which a pair starts.
@@ -75,7 +60,7 @@ fn start_entry<C: Chart>(chart: &C, side: Side, top: Top, s: usize, t: usize) ->
     ensures { result ≡ start_entry side (judged_pair (C.Chart.meaning chart.now) s t) top.value }
 {
     match side {
-        Side::Lower if judges(chart, s, t) => 0,
+        Side::Lower if chart.judges(s, t) => 0,
         _ => top.value(),
     }
 }

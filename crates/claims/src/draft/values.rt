@@ -1,11 +1,11 @@
-ghost use Rattle.std.specs.Prelude.{◌≡◌, ◌<◌, ◌≤◌, max, ◌⊎◌, length, is_some, Some, None, slice_index_or};
+ghost use Rattle.std.specs.Prelude.{◌≡◌, ◌<◌, ◌≤◌, max, ◌⊎◌, Some, None};
 ghost use Rattle.chart.specs.Tables.{distances, overlaid};
 ghost use Rattle.history.specs.Rules.{put, claims, laid, over};
-ghost use Rattle.claims.specs.Views.{values_of, highest, passing};
+ghost use Rattle.claims.specs.Views.{values_of, highest};
 
 use crate::draft::Claims;
 use chart::side::Side;
-use chart::table::{CELLS, SECTIONS, Table};
+use chart::table::{CELLS, Table, cell_index};
 
 impl Claims {
     /// No claims, for a side.
@@ -31,11 +31,7 @@ impl Claims {
     pub fn value(&self, s: usize, t: usize) -> Option<u32>
         ensures { result ≡ values_of self.now s t }
     {
-        if s < SECTIONS && t < SECTIONS {
-            self.values[s * SECTIONS + t]
-        } else {
-            None
-        }
+        self.values[cell_index(s, t)?]
     }
 
     /// Claims a value for a pair, in place of what was claimed for it; nothing changes where a section is not below 32.
@@ -45,9 +41,8 @@ impl Claims {
         ensures outside { (32 ≤ s) ⊎ (32 ≤ t) → self.new ≡ self.old }
         ensures most { highest self.new.values ≤ max (highest self.old.values) value }
     {
-        if s < SECTIONS && t < SECTIONS {
-            let place = s * SECTIONS + t;
-            self.values[place] = Some(value);
+        if let Some(i) = cell_index(s, t) {
+            self.values[i] = Some(value);
         }
     }
 
@@ -55,7 +50,8 @@ impl Claims {
     pub fn count(&self) -> u32
         ensures { result ≡ claims (values_of self.now) }
     {
-        count_values(&self.values)
+        // `as`: there are at most 1,024.
+        self.values.iter().filter(|value| value.is_some()).count() as u32
     }
 
     /// The table with the claims laid over it; a value above the top counts as the top.
@@ -65,18 +61,4 @@ impl Claims {
     {
         table.overlaid(&self.values)
     }
-}
-
-/// How many of the values are there.
-fn count_values(values: &[Option<u32>]) -> u32
-    requires { length values.now ≤ 1024 }
-    ensures { result ≡ passing (length values.now) (λ k. is_some (slice_index_or values.now k None)) }
-{
-    let mut n = 0;
-    for value in values {
-        if value.is_some() {
-            n += 1;
-        }
-    }
-    n
 }

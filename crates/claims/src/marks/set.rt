@@ -3,7 +3,7 @@ ghost use Rattle.history.specs.Rules.{put};
 ghost use Rattle.claims.specs.Views.{marks_of};
 
 use crate::marks::Marks;
-use chart::table::{CELLS, SECTIONS};
+use chart::table::{CELLS, cell_index};
 
 impl Marks {
     /// No claim is shown.
@@ -19,7 +19,7 @@ impl Marks {
     pub fn is_shown(&self, s: usize, t: usize) -> bool
         ensures { result ≡ marks_of self.now s t }
     {
-        s < SECTIONS && t < SECTIONS && self.shown[s * SECTIONS + t]
+        cell_index(s, t).is_some_and(|i| self.shown[i])
     }
 
     /// Marks the claim of a pair as shown; nothing changes where a section is not below 32.
@@ -27,9 +27,8 @@ impl Marks {
         ensures inside { s < 32 → t < 32 → marks_of self.new ≡ put s t true (marks_of self.old) }
         ensures outside { (32 ≤ s) ⊎ (32 ≤ t) → self.new ≡ self.old }
     {
-        if s < SECTIONS && t < SECTIONS {
-            let place = s * SECTIONS + t;
-            self.shown[place] = true;
+        if let Some(i) = cell_index(s, t) {
+            self.shown[i] = true;
         }
     }
 }

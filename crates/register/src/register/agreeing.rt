@@ -3,7 +3,6 @@ ghost use Rattle.history.specs.Promises.{SettledAgree};
 ghost use Rattle.register.specs.Held.{held};
 ghost use Rattle.register.specs.Settling.{settled_entry, both};
 
-use crate::drafts::has_both;
 use crate::register::Register;
 use chart::kind::Chart;
 
@@ -13,11 +12,7 @@ impl<C: Chart> Register<C> {
         ensures { result ≡ settled_entry (C.Chart.meaning self.now.chart) (held self.now) s t }
     {
         let (lower, upper) = self.tables.entries(s, t);
-        if has_both(&self.chart, s, t) && !self.chart.apart(s, t) && lower == upper {
-            Some(upper)
-        } else {
-            None
-        }
+        (self.chart.judges(s, t) && lower == upper).then_some(upper)
     }
 
     /// The entries of a pair here and in another register, where both have it settled.
@@ -32,9 +27,6 @@ impl<C: Chart> Register<C> {
         ensures entries { result ≡ both (settled_entry (C.Chart.meaning self.now.chart) (held self.now) s t) (settled_entry (D.Chart.meaning other.now.chart) (held other.now) s t) }
         ensures agree { SettledAgree (C.Chart.meaning self.now.chart) (D.Chart.meaning other.now.chart) }
     {
-        match (self.settled(s, t), other.settled(s, t)) {
-            (Some(here), Some(there)) => Some((here, there)),
-            _ => None,
-        }
+        self.settled(s, t).zip(other.settled(s, t))
     }
 }

@@ -5,7 +5,6 @@ ghost use Rattle.history.specs.Promises.{Keeps, SettledAgree};
 ghost use Rattle.register.specs.Calls.{asked};
 ghost use Rattle.register.specs.Held.{held, top_of};
 
-use crate::drafts::has_both;
 use crate::phase::Phase;
 use crate::register::Register;
 use crate::tables::Tables;
@@ -46,12 +45,13 @@ impl<C: Chart> Register<C> {
     /// The lower entry of a pair, the upper entry, and what they say.
     ///
     /// After every history of calls the entries bound the distance from both sides, and a full certificate can still be entered; where a pair is settled, every register of the same chart that settles it agrees.
+    #[tactic(auto, using(crate::proofs::Steps::ask_outside, crate::proofs::Steps::ask_answers, crate::proofs::Steps::inside_both, crate::proofs::Steps::outside_one))]
     pub fn ask(&self, s: usize, t: usize) -> Result<(u32, u32, Verdict), Refusal<C::Fault>>
         ensures rule { Step (C.Chart.meaning self.now.chart) (top_of self.now) (held self.now) (Asks s t) (asked result) (held self.now) }
         ensures keeps { Keeps (C.Chart.meaning self.now.chart) (top_of self.now) (held self.now) }
         ensures agrees { (other : C) → SettledAgree (C.Chart.meaning self.now.chart) (C.Chart.meaning other) }
     {
-        if !has_both(&self.chart, s, t) {
+        if !self.chart.has_both(s, t) {
             return Err(Refusal::AskOutside);
         }
         let (lower, upper) = self.tables.entries(s, t);

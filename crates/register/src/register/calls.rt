@@ -4,7 +4,8 @@ ghost use Rattle.register.specs.Calls.{call_of, counted};
 ghost use Rattle.register.specs.Held.{held, top_of};
 
 use crate::call::Call;
-use crate::drafts::{claim, show};
+use crate::drafts::Draft;
+use crate::drafts::claiming::claim;
 use crate::phase::Phase;
 use crate::register::Register;
 use chart::kind::Chart;
@@ -15,6 +16,7 @@ use history::refusal::Refusal;
 
 impl<C: Chart> Register<C> {
     /// Plays a call: it is accepted and answers a count, or it is refused and changes nothing.
+    #[tactic(auto, using(crate::proofs::Idle::idle, crate::proofs::Playing::opened))]
     pub fn call(&mut self, call: Call<'_>) -> Result<u32, Refusal<C::Fault>>
         ensures chart { self.new.chart ≡ self.old.chart }
         ensures top { top_of self.new ≡ top_of self.old }
@@ -32,17 +34,21 @@ impl<C: Chart> Register<C> {
             }
             (_, Call::Claim { .. }) => Err(Refusal::NotClaiming),
             (Phase::Claiming(claims), Call::Close) => {
-                let claims = *claims;
                 let n = claims.count();
                 if n == 0 {
                     return Err(Refusal::NoClaims);
                 }
-                self.phase = Phase::Showing(claims, Marks::none());
+                self.phase = Phase::Showing(*claims, Marks::none());
                 Ok(n)
             }
             (_, Call::Close) => Err(Refusal::CloseNotClaiming),
             (Phase::Showing(claims, marks), Call::Show { s, t, words }) => {
-                show(&self.chart, &self.tables, claims, marks, s, t, words)
+                let draft = Draft {
+                    chart: &self.chart,
+                    tables: &self.tables,
+                    claims,
+                };
+                draft.show(marks, s, t, words)
             }
             (_, Call::Show { .. }) => Err(Refusal::NotShowing),
             (Phase::Showing(claims, marks), Call::Enter) => {
@@ -50,9 +56,7 @@ impl<C: Chart> Register<C> {
                     return Err(Refusal::Unshown(s, t));
                 }
                 self.tables.write(claims);
-                let n = claims.count();
-                self.phase = Phase::Resting;
-                Ok(n)
+                Ok(self.phase.forget())
             }
             (_, Call::Enter) => Err(Refusal::EnterNotShowing),
             (Phase::Resting, Call::Abandon) => Err(Refusal::Resting),

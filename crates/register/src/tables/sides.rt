@@ -53,6 +53,8 @@ impl Tables {
         }
     }
 
+    // The bound stays a `requires`: a struct that lent the tables and the claims for this one call would be no plainer.
+
     /// Writes the claims into the table of their side.
     pub(crate) fn write(&mut self, claims: &Claims)
         requires { highest claims.now.values ≤ top_in self.old }

@@ -6,7 +6,7 @@ ghost use Rattle.weighted.specs.View.{chain};
 ghost use Rattle.chain.proofs.Laws;
 ghost use Rattle.weighted.specs.Soundness.{sound};
 
-use crate::charts::Weighted;
+use crate::charts::{LONGEST, Weighted};
 use chain::fault::Fault;
 use chart::kind::Chart;
 use chart::side::Side;
@@ -17,11 +17,7 @@ impl Weighted {
     fn band(&self, s: usize) -> u8
         ensures { result ≡ slice_index self.now.bands s }
     {
-        if s < self.bands.len() {
-            self.bands[s]
-        } else {
-            0
-        }
+        self.bands.get(s).copied().unwrap_or(0)
     }
 }
 
@@ -37,11 +33,12 @@ impl Chart for Weighted {
     }
 
     fn discount(&self) -> (u32, u32) {
-        (self.a as u32, self.b as u32)
+        (u32::from(self.a), u32::from(self.b))
     }
 
     fn longest(&self) -> u32 {
-        3072
+        // `as`: a `From` cannot be had of a usize.
+        LONGEST as u32
     }
 
     fn apart(&self, s: usize, t: usize) -> bool {

@@ -1,17 +1,17 @@
-use Rattle.std.proofs.Common.{Ok, sym, ap, ◌∙◌, inr}
+use Rattle.std.proofs.Common.{rules, ◌≡◌, [], Ok, ◌∙◌, sym, inr}
 use Rattle.std.proofs.lemmas.Result.{err_from_is_err_and}
-use Rattle.commands.proofs.Tails.{tail_none}
+use Rattle.lines.specs.Fields.{fields}
+use Rattle.commands.specs.Reading.{command_read}
 use Rattle.commands.proofs.line.read_command.Goals as goal
 
 pub returns-in_ok-no_more : goal.returns-in_ok-no_more
 returns-in_ok-no_more c =
-    c.in_ok-command.ensures.0
-    ∙ tail_none _ _ (sym c.if-takes_words.ensures)
-    ∙ c.in_ok-no_more.ensures _
-    ∙ ap (λ ws. Ok (c.in_ok-command.command, ws)) (sym c.requires)
+    let e = c.in_ok-no_more.ensures c.in_ok-command.command in
+    let read : command_read c.args.name (fields c.args.bytes.now) ≡ Ok (c.in_ok-command.command, []) = c.in_ok-command.ensures.0 ∙ rw (sym c.if-takes_words.ensures) e in
+    search rules
 
 pub returns-in_err-no_more : goal.returns-in_err-no_more
 returns-in_err-no_more c =
+    let e = c.in_err-no_more.ensures c.in_ok-command.command in
     let p = err_from_is_err_and c.from_residual-in_err-no_more.result c.from_residual-in_err-no_more.ensures.1 in
-    rw (p.1, p.2)
-    (inr (c.in_ok-command.ensures.0 ∙ tail_none _ _ (sym c.if-takes_words.ensures) ∙ c.in_err-no_more.ensures _))
+    rw (p.1, p.2) (inr (c.in_ok-command.ensures.0 ∙ rw (sym c.if-takes_words.ensures) e))

@@ -1,6 +1,6 @@
-use Rattle.std.proofs.Common.{None, refl}
-use Rattle.claims.proofs.Grids.{grid_same, highest_none}
+use Rattle.std.proofs.Common.{None}
+use Rattle.claims.proofs.Grids.{grid_same}
 use Rattle.claims.proofs.draft.Claims.new.Goals as goal
 
-pub returns : goal.returns
-returns c = record { same = refl; empty = grid_same 1024 None; zero = highest_none 1024 }
+pub returns-clause-empty : goal.returns-clause-empty
+returns-clause-empty c = grid_same 1024 None

@@ -1,16 +1,19 @@
-use Rattle.std.proofs.Common.{not, eqb, get_or, sym, arith}
-use Rattle.std.proofs.lemmas.Bool.{eq-eqb, ne_eqb, not_from_true, not_from_false}
-use Rattle.finite.proofs.Search.{least_none, least_found}
-use Rattle.weighted.specs.View.{chain}
+use Rattle.std.proofs.Common.{◌≡◌, ℕ, not, eqb, List, [], take, length, get_or, refl, ◌∙◌, rules, arith}
+use Rattle.std.specs.List.{zip}
+use Rattle.std.proofs.lemmas.Iterator.{YieldsList-from_slice, YieldsList-from_zip}
+use Rattle.std.proofs.lemmas.Iterator.Search.{position_from_yields_List}
+use Rattle.std.proofs.lemmas.List.{get_or-take}
+use Rattle.std.proofs.lemmas.Slice.Zip.{length-zip, get_or-zip}
+use Rattle.finite.proofs.Lists.{position_least}
 use Rattle.weighted.proofs.charts.Weighted.find_margin.Goals as goal
-
-pub returns-then-amounts-u : goal.returns-then-amounts-u
-returns-then-amounts-u c =
-    sym (least_found c.args.self.now.n (λ u. not (eqb (get_or c.args.amounts.now u 0) ((chain c.args.self.now).part c.args.s u))) c.loop-u.u c.loop-u-test.true
-    (not_from_false _ (ne_eqb _ _ c.if-amounts-u.true))
-    (λ k l. not_from_true _ (eq-eqb _ _ (c.loop-u.invariant k l))))
 
 pub returns : goal.returns
 returns c =
-    sym (least_none c.args.self.now.n (λ u. not (eqb (get_or c.args.amounts.now u 0) ((chain c.args.self.now).part c.args.s u)))
-    (λ k l. not_from_true _ (eq-eqb _ _ (c.loop-u.invariant k (omega arith)))))
+    let w = c.args.self.now in
+    let xs : List ℕ = take w.n c.args.amounts.now in
+    let row : List ℕ = get_or w.rows c.args.s [] in
+    let long : length row ≡ 32 = search rules in
+    let short : length xs ≡ w.n = search rules in
+    position_from_yields_List (λ (p : ℕ × ℕ). not (eqb p.0 p.1)) c.position.new.self _ _ c.position.ensures.ran
+    (YieldsList-from_zip (YieldsList-from_slice xs (search rules)) (YieldsList-from_slice row (search rules))) (λ x b q k. search rules)
+    ∙ position_least _ _ (zip xs row) w.n (0, 0) (omega (arith, length-zip xs row)) (λ i l. rw (get_or-zip xs row i (0, 0) (omega arith) (omega arith), get_or-take w.n c.args.amounts.now i 0 l) refl)

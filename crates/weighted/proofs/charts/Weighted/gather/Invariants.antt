@@ -1,4 +1,4 @@
-use Rattle.std.proofs.Common.{◌≡◌, ◌*◌, ◌≤◌, pos}
+use Rattle.std.proofs.Common.{◌≡◌, ◌*◌, ◌≤◌}
 use Rattle.finite.specs.Sums.{sum}
 use Rattle.chart.specs.Tables.{distances}
 use Rattle.chain.specs.Pairing.{left, right, amount}
@@ -8,9 +8,10 @@ use Rattle.weighted.proofs.Triples.{Clear}
 use Rattle.weighted.proofs.charts.Weighted.gather.Given as goal
 
 abbrev pub invariant-loop-j : goal.invariant-loop-j
-invariant-loop-j l =
-    Clear (chain l.self) l.words l.j
-    × Tallied l.left (left l.words) (amount l.words) l.j
-    × Tallied l.right (right l.words) (amount l.words) l.j
-    × (l.total ≡ pos (sum l.j (λ j. amount l.words j * (distances l.d).entry (left l.words j) (right l.words j))))
-    × (sum l.j (λ j. amount l.words j * (distances l.d).entry (left l.words j) (right l.words j)) ≤ l.j * 10000000000000)
+invariant-loop-j l = record {
+  clear : Clear (chain l.self) l.words l.j;
+  lefts : Tallied l.left (left l.words) (amount l.words) l.j;
+  rights : Tallied l.right (right l.words) (amount l.words) l.j;
+  total : l.total ≡ sum l.j (λ j. amount l.words j * (distances l.d).entry (left l.words j) (right l.words j));
+  few : l.total ≤ l.j * 10000000000000;
+}

@@ -1,30 +1,49 @@
-use Rattle.std.proofs.Common.{sym, refl}
-use Rattle.files.proofs.Reading.{weighted_whole}
-use Rattle.weighted.proofs.Reading.{row_refused, read_accepted, rows_add_up, chain_read}
+use Rattle.std.proofs.Common.{◌≡◌, ℕ, not, eqb, List, Ok, sym, refl, ap, arith}
+use mathlib.Core.Path.{fun_ext}
+use Rattle.std.proofs.lemmas.Bool.Decides.{nat_tests}
+use Rattle.finite.specs.Sums.{sum}
+use Rattle.finite.specs.Search.{least}
+use Rattle.finite.proofs.Search.{least_none_at}
+use Rattle.files.specs.declared.header.Header.{Header}
+use Rattle.files.specs.declared.kind.Kind.TheVariants.{Weighted as weighted_kind}
+use Rattle.files.specs.Format.{sections_field, whole_field}
+use Rattle.files.specs.Reading.{Fits}
+use Rattle.weighted.specs.Rows.{entry_at}
+use Rattle.weighted.specs.Reading.{part_in}
 use Rattle.weighted.proofs.charts.Weighted.read.Goals as goal
 
-pub returns-in-Some : goal.returns-in-Some
-returns-in-Some c = record {
-  answer = row_refused c.args.bytes.now c.in_ok-header.header c.read_rows-rows.result c.in_ok-header.ensures.fits (sym c.in_ok-header.ensures.answer) c.read_rows-rows.ensures c.in-Some.s c.in-Some.ensures;
-  chart = refl;
-}
+-- the first row that does not add up, as the file has it
+same_rows : {bs : List ℕ} {h : Header} (rows : List (List ℕ)) → Fits weighted_kind bs h → ((s u : ℕ) → entry_at rows s u ≡ part_in bs s u)
+    → least (sections_field bs) (λ s. not (eqb (sum (sections_field bs) (part_in bs s)) (whole_field bs))) ≡ least h.sections (λ s. not (eqb (sum h.sections (entry_at rows s)) h.whole))
+same_rows {bs} rows fits parts =
+    let rows_are : entry_at rows ≡ part_in bs = fun_ext (λ s. fun_ext (λ u. parts s u)) in
+    rw (fits.sections_is, fits.whole_is, rows_are) refl
 
-pub invariant_of-self : goal.invariant_of-self
-invariant_of-self c =
-    let f = c.in_ok-header.ensures.fits in
-    let w = weighted_whole _ _ f in record {
-      n_least = f.some_sections;
-      n_most = f.few_sections;
-      a_least = f.some_numerator;
-      a_most = f.below_one;
-      b_most = f.few_denominator;
-      whole_least = w.0;
-      whole_most = w.1;
-      adds_up = rows_add_up c.args.bytes.now c.in_ok-header.header c.read_rows-rows.result f (sym c.in_ok-header.ensures.answer) c.read_rows-rows.ensures c.in_default.ensures;
-    }
+pub returns-in-Some-clause-answer : goal.returns-in-Some-clause-answer
+returns-in-Some-clause-answer c =
+    let file = c.in_ok-file in
+    rw (← file.ensures.answer, ← file.ensures.bytes, same_rows c.rows-rows.result file.file.fits c.rows-rows.ensures, ← c.in-Some.ensures) refl
 
-pub returns : goal.returns
-returns c = record {
-  answer = read_accepted c.args.bytes.now c.in_ok-header.header c.read_rows-rows.result c.in_ok-header.ensures.fits (sym c.in_ok-header.ensures.answer) c.read_rows-rows.ensures c.in_default.ensures;
-  chart = chain_read c.args.bytes.now c.in_ok-header.header c.read_rows-rows.result c.in_ok-header.ensures.fits (sym c.in_ok-header.ensures.answer) c.read_rows-rows.ensures c.read_bands.result c.read_bands.ensures;
-}
+pub invariant_of-self-clause-adds_up : goal.invariant_of-self-clause-adds_up
+invariant_of-self-clause-adds_up c s l =
+    let h = c.in_ok-file.file.header in
+    let even = least_none_at h.sections (λ s. not (eqb (sum h.sections (entry_at c.rows-rows.result s)) h.whole)) (sym c.in_default.ensures) s l in
+    grind (arith, nat_tests)
+
+pub returns-clause-answer : goal.returns-clause-answer
+returns-clause-answer c =
+    let file = c.in_ok-file in
+    let fits = file.file.fits in
+    rw (← file.ensures.answer, ← file.ensures.bytes, same_rows c.rows-rows.result fits c.rows-rows.ensures, ← c.in_default.ensures) (ap Ok fits.sections_is)
+
+pub returns-clause-chart : goal.returns-clause-chart
+returns-clause-chart c =
+    let fits = c.in_ok-file.file.fits in
+    rw (← c.in_ok-file.ensures.bytes) (λ i. record {
+      n = fits.sections_is i;
+      a = fits.numerator_is i;
+      b = fits.denominator_is i;
+      whole = fits.whole_is i;
+      band = λ s. c.bands.ensures s i;
+      part = λ s u. c.rows-rows.ensures s u i;
+    })

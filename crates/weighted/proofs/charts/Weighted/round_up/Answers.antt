@@ -1,23 +1,26 @@
-use Rattle.std.proofs.Common.{◌*◌, ◌<◌, ◌≤◌, nat_abs, mul-pos, arith, w64, to_z, of_z}
-use borrow.Author.Differences.{ints}
-use Rattle.weighted.proofs.Rounding.{up_few, products_fit}
+use Rattle.std.proofs.Common.{◌≡◌, ℕ, ◌+◌, ◌-◌, ◌*◌, ◌/◌, ◌%◌, ◌<◌, ◌≤◌, min, mul-pos, mul-le-mul, sym, ◌∙◌, arith}
+use Rattle.std.proofs.lemmas.Grind.{div_ceil_times}
+use Rattle.std.proofs.lemmas.Nat.{div_below, div-mul-add}
 use Rattle.weighted.proofs.charts.Weighted.round_up.Goals as goal
 
-pub overflow_sub-result : goal.overflow_sub-result
-overflow_sub-result c = mul-pos {m = c.args.self.now.b} {n = c.args.self.now.whole} (omega arith) (omega arith)
+-- a quotient rounded up, by its whole part and its rest
+ceil_is : (x y : ℕ) → 0 < y → x / y + min 1 (x % y) ≡ (x + (y - 1)) / y
+ceil_is x y some =
+    let r = x / y + min 1 (x % y) in
+    let near = div_ceil_times x y some in
+    let sum : x + (y - 1) ≡ r * y + (x + (y - 1) - r * y) = omega arith in
+    sym (rw sum (div-mul-add r y (x + (y - 1) - r * y) (omega arith)))
 
-pub nonzero_div-result : goal.nonzero_div-result
-nonzero_div-result c = mul-pos {m = c.args.self.now.b} {n = c.args.self.now.whole} (omega arith) (omega arith)
+some : (c : goal.After-div_ceil) → 0 < c.args.self.now.b * c.args.self.now.whole
+some c = mul-pos (omega arith) (omega arith)
 
-pub overflow_add-result : goal.overflow_add-result
-overflow_add-result c =
-    let x = nat_abs (to_z w64 (of_z w64 c.args.total)) in
-    let few : x ≤ 2000000000 * c.args.self.now.whole = omega (arith, ints) in
-    omega (arith, products_fit c.args.self.now.a c.args.self.now.b c.args.self.now.whole x (omega arith) (omega arith) (omega arith) few)
+pub returns : goal.returns
+returns c = c.div_ceil.ensures ∙ rw (c.from.ensures, c.from-2.ensures, c.from-3.ensures) (ceil_is (c.args.self.now.a * c.args.total) (c.args.self.now.b * c.args.self.now.whole) (some c))
 
-pub overflow_cast-result-3 : goal.overflow_cast-result-3
-overflow_cast-result-3 c =
-    let x = nat_abs (to_z w64 (of_z w64 c.args.total)) in
-    let few : x ≤ 1000000000 * c.args.self.now.whole = omega (arith, ints) in
-    let some : 0 < c.args.self.now.b * c.args.self.now.whole = mul-pos {m = c.args.self.now.b} {n = c.args.self.now.whole} (omega arith) (omega arith) in
-    omega (arith, up_few c.args.self.now.a c.args.self.now.b c.args.self.now.whole x (omega arith) some few)
+pub overflow_cast-result : goal.overflow_cast-result
+overflow_cast-result c =
+    let w = c.args.self.now in
+    let less : w.a ≤ w.b = omega arith in
+    let few = mul-le-mul less c.requires in
+    let below = div_below (w.a * c.args.total + (w.b * w.whole - 1)) (w.b * w.whole) 1000000001 (some c) (omega (arith, some c)) in
+    omega (arith, returns c)

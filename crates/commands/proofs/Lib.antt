@@ -1,3 +1,0 @@
-pub mod Comments
-pub mod Tails
-pub mod Words

@@ -1,6 +1,0 @@
-use Rattle.std.proofs.Common.{sym, true-eqb}
-use Rattle.lines.proofs.Weighings.{no_comment}
-use Rattle.lines.proofs.line.is_comment.Goals as goal
-
-pub returns-then-is_empty : goal.returns-then-is_empty
-returns-then-is_empty c = sym (no_comment _ (true-eqb _ 0 c.if-is_empty.ensures))
