@@ -24,7 +24,7 @@ pub fn count_unshown(claims: &Claims, marks: &Marks) -> u32
 pub fn first_unshown(claims: &Claims, marks: &Marks) -> Option<(usize, usize)>
     ensures { First (values_of claims.now) (marks_of marks.now) result }
 {
-    // Two loops, as the rule names the pairs: by the first section, and then by the second.
+    // Two loops, as the rule names the pairs; a search through the cells would have to take the pair out of an index.
     for s in 0..SECTIONS {
         for t in 0..SECTIONS {
             if waits(claims, marks, s, t) {
@@ -36,6 +36,7 @@ pub fn first_unshown(claims: &Claims, marks: &Marks) -> Option<(usize, usize)>
 }
 
 /// Whether a pair has a claim that is not shown.
+// The count above makes this test of two cells side by side, with no pair at hand.
 fn waits(claims: &Claims, marks: &Marks, s: usize, t: usize) -> bool
     ensures { result ≡ waits (values_of claims.now) (marks_of marks.now) s t }
 {

@@ -29,6 +29,7 @@ pub enum Command {
 
 impl Command {
     /// Whether words follow the command's own fields.
+    // A test and no closure: the definition of what follows a command makes the same one.
     pub(crate) fn takes_words(self) -> bool
         ensures { result ≡ takes_words self }
     {

@@ -84,7 +84,7 @@ fn read_command(name: Name, bytes: &[u8], words: &mut Vec<i32>) -> Result<Comman
     Ok(command)
 }
 
-/// Reads one line. The words of its command, of which only a `show` and a `weigh` have some, are what `words` then holds.
+/// Reads one line, and the words of a `show` or a `weigh` into `words`, which any other command empties.
 ///
 /// A line that is passed over asks for nothing. Of several things that are wrong, the answer is the first in the line.
 /// Memory is wanting only if `words` has room for fewer words than the line has fields.

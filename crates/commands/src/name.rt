@@ -2,6 +2,7 @@ ghost use Rattle.std.specs.Prelude.{◌≡◌};
 ghost use Rattle.commands.specs.Names.{name_of};
 
 /// The names of commands, each the first field of its lines.
+// Not left out by matching the bytes where the fields are read: the definitions go by these names, as the lines do.
 #[derive(Clone, Copy)]
 pub(crate) enum Name {
     Open,

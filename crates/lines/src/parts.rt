@@ -87,9 +87,5 @@ fn is_comment(field: &[u8]) -> bool
 pub fn begin_line(line: &[u8]) -> Option<(&[u8], &[u8])>
     ensures { MatchOption result (passed_over (fields line.now) ≡ true) (λ p. (fields line.now ≡ p.0.now ∷ fields p.1.now) × (comment p.0.now ≡ false)) }
 {
-    let (first, rest) = split_field(line)?;
-    if is_comment(first) {
-        return None;
-    }
-    Some((first, rest))
+    split_field(line).filter(|(first, _)| !is_comment(first))
 }

@@ -14,7 +14,7 @@ mod showing;
 pub(crate) struct Draft<'a, 'c, C: Chart> {
     pub(crate) chart: &'a C,
     pub(crate) tables: &'a Tables,
-    // Lent from the phase, at a lifetime of its own: tried with one for all three, and the borrow checker did not cover `Register::call`.
+    // Lent from the phase, at a lifetime of its own: tried with one for all three, and the borrow checker refused `Register::call`.
     pub(crate) claims: &'c Claims,
     ghost within: { highest claims.now.values ≤ top_in tables.now },
 }

@@ -30,10 +30,7 @@ impl Table {
     pub fn entry(&self, s: usize, t: usize) -> u32
         ensures { result ≡ (distances self.now).entry s t }
     {
-        match cell_index(s, t) {
-            Some(i) => self.cells[i],
-            None => self.top(),
-        }
+        cell_index(s, t).map_or(self.top(), |i| self.cells[i])
     }
 
     /// The table with these values in place of its entries; a value above the top counts as the top.

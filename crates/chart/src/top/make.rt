@@ -7,7 +7,7 @@ use std::fmt;
 
 impl Top {
     /// The top of that number, if it is in range.
-    // Not `try_from`: a number becomes a top where one is made, and nowhere by the way.
+    // Not `TryFrom`, nor a chain on `ok`: its name says what the number becomes, and the guard is what the top's type asks.
     pub fn new(number: u64) -> Result<Top, TopRefusal>
         ensures { MatchResult result (λ top. InRange number × (top.value ≡ number)) (λ e. (InRange number → ⊥) × (refusal_numbers e ≡ 11 ∷ [])) }
     {

@@ -41,6 +41,7 @@ impl Claims {
         ensures outside { (32 ≤ s) ⊎ (32 ≤ t) → self.new ≡ self.old }
         ensures most { highest self.new.values ≤ max (highest self.old.values) value }
     {
+        // As in `Marks::mark`, but for the type of a cell: a struct of cells of any type would have the same lines.
         if let Some(i) = cell_index(s, t) {
             self.values[i] = Some(value);
         }

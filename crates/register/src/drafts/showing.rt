@@ -50,7 +50,7 @@ impl<C: Chart> Draft<'_, '_, C> {
         if !self.chart.has_both(s, t) {
             return Err(Refusal::ShowOutside);
         }
-        // Not `ok_or`: tried, and refused, since it may drop its refusal, and a kind's fault need not be `Drop`.
+        // Not `ok_or`, which would have to drop a refusal, nor `ok_or_else`: its closure would only name one.
         let Some(value) = self.claims.value(s, t) else {
             return Err(Refusal::NoClaim);
         };

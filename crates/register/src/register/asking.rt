@@ -1,4 +1,5 @@
 ghost use Rattle.std.specs.Prelude.{◌≡◌};
+ghost use Rattle.chart.specs.Starting.{start_table};
 ghost use Rattle.history.specs.Calls.{Ask as Asks};
 ghost use Rattle.history.specs.Rules.{Step, fresh, over, side_of, verdict_of};
 ghost use Rattle.history.specs.Promises.{Keeps, SettledAgree};
@@ -20,6 +21,7 @@ impl<C: Chart> Register<C> {
         ensures chart { result.chart ≡ chart }
         ensures top { top_of result ≡ top.value }
         ensures fresh { held result ≡ fresh (C.Chart.meaning chart) top.value }
+        ensures starts { (side : Side) → over (top_of result) (side_of side (held result)) ≡ start_table (C.Chart.meaning chart) side top.value }
     {
         Register {
             tables: Tables::starting(&chart, top),
@@ -61,6 +63,7 @@ impl<C: Chart> Register<C> {
 }
 
 /// What the entries of a pair say, of whether the sections are apart and whether the entries are equal.
+// Of two facts, as the rule has them.
 fn verdict(apart: bool, equal: bool) -> Verdict
     ensures { result ≡ verdict_of apart equal }
 {

@@ -1,4 +1,4 @@
-ghost use Rattle.std.specs.Prelude.{◌≡◌, slice_index};
+ghost use Rattle.std.specs.Prelude.{◌≡◌, ◌*◌, slice_index};
 ghost use Rattle.chart.specs.Tables.{distances};
 ghost use Rattle.chain.specs.Meaning.{means, weighed};
 ghost use Rattle.chain.specs.Coupling.{SupportedIsNowhereRaised, CouplingsBoundPotentials};
@@ -19,6 +19,13 @@ impl Weighted {
     {
         self.bands.get(s).copied().unwrap_or(0)
     }
+
+    /// The discount's denominator times what a row adds up to.
+    pub(super) fn scale(&self) -> u64
+        ensures { result ≡ self.now.b * self.now.whole }
+    {
+        u64::from(self.b) * u64::from(self.whole)
+    }
 }
 
 impl Chart for Weighted {
@@ -37,7 +44,7 @@ impl Chart for Weighted {
     }
 
     fn longest(&self) -> u32 {
-        // `as`: a `From` cannot be had of a usize.
+        // `as`: no `From` makes a u32 of a usize, and it is 3,072.
         LONGEST as u32
     }
 

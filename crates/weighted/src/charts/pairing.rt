@@ -60,10 +60,10 @@ impl Weighted {
     fn section(&self, word: i32, place: usize) -> Result<usize, Fault>
         ensures { MatchResult result (λ u. (word ≡ pos u) × (u < self.now.n)) (λ f. (f ≡ NoSection place) × (outside (pos 0) (pos (self.now.n - 1)) word ≡ true)) }
     {
-        match usize::try_from(word) {
-            Ok(u) if u < self.n => Ok(u),
-            _ => Err(Fault::Section(place)),
-        }
+        usize::try_from(word)
+            .ok()
+            .filter(|u| *u < self.n)
+            .ok_or(Fault::Section(place))
     }
 
     /// The amount that a word is, or the fault at its place.
@@ -71,10 +71,10 @@ impl Weighted {
     fn amount(&self, word: i32, place: usize) -> Result<u32, Fault>
         ensures { MatchResult result (λ x. (word ≡ pos x) × (1 ≤ x) × (x ≤ self.now.whole)) (λ f. (f ≡ NoAmount place) × (outside (pos 1) (pos self.now.whole) word ≡ true)) }
     {
-        match u32::try_from(word) {
-            Ok(x) if (1..=u32::from(self.whole)).contains(&x) => Ok(x),
-            _ => Err(Fault::Amount(place)),
-        }
+        u32::try_from(word)
+            .ok()
+            .filter(|x| (1..=u32::from(self.whole)).contains(x))
+            .ok_or(Fault::Amount(place))
     }
 
     /// The triple at `j`, or the fault of its first bad word.
@@ -124,9 +124,8 @@ impl Weighted {
         requires { total ≤ 1000000000 * self.now.whole }
         ensures { result ≡ least_claim (chain self.now) total }
     {
-        let scale = u64::from(self.b) * u64::from(self.whole);
         // `as`: it is at most 1,000,000,000.
-        (u64::from(self.a) * total).div_ceil(scale) as u32
+        (u64::from(self.a) * total).div_ceil(self.scale()) as u32
     }
 
     /// The least claim that the pairing shows for `(s, t)` in the table, or its first fault.

@@ -36,7 +36,7 @@ impl Potentials<'_> {
         let first = &self.chart.rows[self.s];
         let second = &self.chart.rows[self.t];
         let mut found = None;
-        // By a rule of the project, a scan of pairs is two loops that a label leaves.
+        // By a rule of the project, the scan under the table is two loops that a label leaves.
         'scan: for (u, alpha) in alphas.iter().enumerate() {
             if first[u] == 0 {
                 continue;
@@ -81,9 +81,8 @@ impl Weighted {
         ensures { result ≡ greatest_claim (chain self.now) sum }
     {
         let gain = u64::try_from(sum).unwrap_or(0);
-        let scale = u64::from(self.b) * u64::from(self.whole);
         // `as`: it is at most 1,000,000,000.
-        (u64::from(self.a) * gain / scale) as u32
+        (u64::from(self.a) * gain / self.scale()) as u32
     }
 
     /// The greatest claim that the potentials show for `(s, t)` in the table, or their first fault.

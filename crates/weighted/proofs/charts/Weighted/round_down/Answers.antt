@@ -9,4 +9,4 @@ overflow_cast-result c =
     let few : c.unwrap_or-gain.result ≤ 2000000000 * w.whole = grind (arith, ints) in
     let less : w.a ≤ w.b = omega arith in
     let below : w.a * c.unwrap_or-gain.result / (w.b * w.whole) ≤ 2000000000 = div-le_of_le-mul (w.b * w.whole) (omega (arith, mul-le-mul less few)) in
-    rw (c.from.ensures, c.from-2.ensures, c.from-3.ensures) (omega arith)
+    rw (c.from.ensures, c.scale.ensures) (omega arith)

@@ -15,7 +15,7 @@ some : (c : goal.After-div_ceil) → 0 < c.args.self.now.b * c.args.self.now.who
 some c = mul-pos (omega arith) (omega arith)
 
 pub returns : goal.returns
-returns c = c.div_ceil.ensures ∙ rw (c.from.ensures, c.from-2.ensures, c.from-3.ensures) (ceil_is (c.args.self.now.a * c.args.total) (c.args.self.now.b * c.args.self.now.whole) (some c))
+returns c = c.div_ceil.ensures ∙ rw (c.from.ensures, c.scale.ensures) (ceil_is (c.args.self.now.a * c.args.total) (c.args.self.now.b * c.args.self.now.whole) (some c))
 
 pub overflow_cast-result : goal.overflow_cast-result
 overflow_cast-result c =
