@@ -1,16 +1,20 @@
 #!/usr/bin/env python3
-"""Runs the program on charts and lines at the edges of what it takes, and on what it must refuse.
+"""Runs the program on charts and scripts at the edges of what it takes, and on what it must refuse.
 
     python3 tests/run.py crates/settle/out/settle
-
-Each case has a chart file's bytes, the top, the lines, and what the program must write and how it must end.
 """
+import itertools
 import pathlib
 import struct
 import subprocess
 import sys
 import tempfile
 
+TOP = 1_000_000_000
+ROOT = pathlib.Path(__file__).resolve().parent.parent
+
+
+# ---- charts
 
 def chart(n, a, b, whole, bands, rows, kind=1, bands_at=16, routes_at=None, length=None, size=None):
     """The bytes of a chart file."""
@@ -44,6 +48,29 @@ def wide():
     return chart(32, 999, 1000, 10000, [7] * 32, [row] * 32)
 
 
+def after(s):
+    """The section to which section s of `split` goes on."""
+    return {0: 2, 1: 20}.get(s, s)
+
+
+def split():
+    """32 sections, two bands; section 0 goes on to 2, section 1 to 20, which are apart."""
+    rows = [[10000 if u == after(s) else 0 for u in range(32)] for s in range(32)]
+    return chart(32, 999, 1000, 10000, [0] * 16 + [1] * 16, rows)
+
+
+def bands_of(file):
+    """The bands of a chart, one for each section."""
+    header = struct.unpack_from(">8H", file)
+    return file[header[5] : header[5] + header[1]]
+
+
+# ---- scripts: lists of a command's line and what is said of it
+
+def weigh(side, s, t, words):
+    return " ".join(map(str, ["weigh", side, s, t, *words]))
+
+
 def wide_pairing():
     """A pairing for the rows of `wide` with every pair of sections: 3,072 words."""
     words = []
@@ -53,111 +80,271 @@ def wide_pairing():
     return words
 
 
-def split():
-    """32 sections, two bands; section 0 goes on to 2, section 1 to 20, which are apart."""
-    rows = [[10000 if u == s else 0 for u in range(32)] for s in range(32)]
-    rows[0] = [10000 if u == 2 else 0 for u in range(32)]
-    rows[1] = [10000 if u == 20 else 0 for u in range(32)]
-    return chart(32, 999, 1000, 10000, [0] * 16 + [1] * 16, rows)
-
-
 def potentials(alpha, beta):
     """64 words: what is given, and 0 at the other sections."""
     return [alpha.get(u, 0) for u in range(32)] + [beta.get(v, 0) for v in range(32)]
 
 
-def line(side, s, t, words):
-    return " ".join(["weigh", side, str(s), str(t)] + [str(w) for w in words])
+def draft(side, claims):
+    """A draft that is entered: for each pair of sections the value that is claimed, and the words that show it."""
+    n = len(claims)
+    script = [(f"open {side}", "= 0")]
+    for k, ((s, t), (value, _)) in enumerate(claims.items()):
+        script.append((f"claim {s} {t} {value}", f"= {k + 1}"))
+    script.append(("close", f"= {n}"))
+    for k, ((s, t), (_, words)) in enumerate(reversed(claims.items())):
+        script.append((" ".join(map(str, ["show", s, t, *words])), f"= {n - k - 1}"))
+    return script + [("enter", f"= {n}")]
 
 
-TOP = 1_000_000_000
+def split_distances():
+    """The distances of `split`, of each judged pair: 999/1000 between section 1 and the others of its band, else 0."""
+    bands = bands_of(split())
+    pairs = [(s, t) for s in range(32) for t in range(32) if bands[s] == bands[t]]
+    return {(s, t): 999_000_000 if (s == 1) != (t == 1) else 0 for s, t in pairs}
+
+
+def split_certificate():
+    """A full certificate for `split`: pairings for all judged pairs, potentials for those with a distance above 0."""
+    distances = split_distances()
+    upper = {(s, t): (d, [after(s), after(t), 10000]) for (s, t), d in distances.items()}
+    lower = {(s, t): (d, potentials({20: TOP} if s == 1 else {}, {20: TOP} if t == 1 else {})) for (s, t), d in distances.items() if d}
+    return draft("upper", upper) + draft("lower", lower)
+
+
+# ---- what the program is to write
+
+def command(line):
+    """A command as it is written in the answer: without the words of a showing."""
+    fields = line.split()
+    return " ".join(fields[: 3 if fields[0] == "show" else 4])
+
+
+def report(file, top, accepted, refused, entries):
+    """The report over a chart: of each pair the lower and the upper entry, those of `entries` or else the starting ones."""
+    bands = bands_of(file)
+    lines, verdicts = [], []
+    for s, t in itertools.product(range(len(bands)), repeat=2):
+        apart = bands[s] != bands[t]
+        lower, upper = entries.get((s, t), (top if apart else 0, top))
+        verdicts.append("apart" if apart else "settled" if lower == upper else "open")
+        lines.append(f"{s} {t} {lower} {upper} {verdicts[-1]}")
+    apart, settled, open_ = [verdicts.count(verdict) for verdict in ("apart", "settled", "open")]
+    return lines + [f"calls: {accepted} accepted, {refused} refused", f"pairs: {apart} apart, {settled} settled, {open_} open"]
+
+
+def played(file, top, script, entries):
+    """What the program writes of a whole script, after which these entries are no longer the starting ones."""
+    calls = [said for line, said in script if not line.startswith("weigh")]
+    accepted = sum(said.startswith("= ") for said in calls)
+    answers = [f"{command(line)} {said}" for line, said in script]
+    return answers + report(file, top, accepted, len(calls) - accepted, entries)
+
+
+# ---- cases
+
+FAULT_100 = "fault 100 0 (the pair is apart, or has a section that the chart has not)"
+OUTSIDE = "(the chart has not both sections)"
+LOOSE = "refused 34 (the value is looser than the entry, or above the top)"
+
 WHOLE = wide_pairing()
 SHORT = WHOLE[:-3]
 MORE = WHOLE + [0, 0, 1]
 
-# name, chart, top, lines, standard output, standard error, status
-CASES = [
-    ("the widest chart", wide(), TOP,
-     [line("upper", 0, 1, WHOLE), line("upper", 0, 1, SHORT), line("upper", 0, 1, MORE), line("upper", 31, 31, WHOLE),
-      line("lower", 0, 1, potentials({u: TOP for u in range(32)}, {v: -TOP for v in range(32)})),
-      line("lower", 0, 1, potentials({u: TOP for u in range(32)}, {v: -TOP + 1 for v in range(32)})),
-      line("lower", 0, 1, potentials({31: TOP + 1}, {})), line("lower", 0, 1, potentials({}, {31: -2147483648})),
-      line("lower", 0, 1, [0] * 63), line("upper", 32, 0, []), line("upper", 0, 31, [])],
-     ["weigh upper 0 1 = 999000000",
-      "weigh upper 0 1 fault 104 31 (the amounts at section 31 do not add up to its part)",
-      "weigh upper 0 1 fault 101 3075 (a pairing cannot have 3075 words: it has triples, at most 1,024)",
-      "weigh upper 31 31 = 999000000",
-      "weigh lower 0 1 = 0",
-      "weigh lower 0 1 fault 113 0 (the potentials of the successors at place 0 add up to more than their entry)",
-      "weigh lower 0 1 fault 112 31 (word 31 is further from 0 than the top)",
-      "weigh lower 0 1 fault 112 63 (word 63 is further from 0 than the top)",
-      "weigh lower 0 1 fault 111 63 (potentials cannot have 63 words: they have two for each section)",
-      "weigh upper 32 0 fault 100 0 (the pair is apart, or has a section that the chart has not)",
-      "weigh upper 0 31 fault 104 0 (the amounts at section 0 do not add up to its part)"], "", 0),
-    ("the greatest claim", split(), TOP,
-     [line("lower", 0, 1, potentials({2: TOP}, {})), line("lower", 0, 1, potentials({2: TOP}, {20: 1})),
-      line("lower", 0, 1, potentials({2: -TOP}, {20: -TOP})), line("upper", 0, 1, [2, 20, 10000]), line("upper", 0, 16, [])],
-     ["weigh lower 0 1 = 999000000",
-      "weigh lower 0 1 fault 113 84 (the potentials of the successors at place 84 add up to more than their entry)",
-      "weigh lower 0 1 = 0", "weigh upper 0 1 = 999000000",
-      "weigh upper 0 16 fault 100 0 (the pair is apart, or has a section that the chart has not)"], "", 0),
-    ("the least top", WORKED, 1, [line("upper", 0, 3, [0, 3, 3, 1, 3, 1]), line("lower", 0, 3, [0, 1] + [0] * 6), line("lower", 0, 3, [0, 2] + [0] * 6)],
-     ["weigh upper 0 3 = 1", "weigh lower 0 3 = 0", "weigh lower 0 3 fault 112 1 (word 1 is further from 0 than the top)"], "", 0),
-    ("no lines", WORKED, 30, [], [], "", 0),
-    ("a malformed line", WORKED, 30, ["# first", "weigh upper 0 0 0 0 3 1 1 1", "weigh upper 0 x", "weigh upper 0 0"], ["weigh upper 0 0 = 15"],
-     "settle: line 3: field 3 is not a whole number from 0 to 4294967295", 1),
-    ("top 0", WORKED, 0, [], [], "settle: TOP refused 11 (the top is not a whole number from 1 to 1,000,000,000)", 1),
-    ("one above the greatest top", WORKED, TOP + 1, [], [], "settle: TOP refused 11 (the top is not a whole number from 1 to 1,000,000,000)", 1),
-    ("a top in words", WORKED, "thirty", [], [], "settle: TOP refused 11 (the top is not a whole number from 1 to 1,000,000,000)", 1),
-    ("an empty file", b"", 30, [], [], "settle: a.chart refused 1 0 (the file has fewer than 16 bytes)", 1),
-    ("15 bytes", WORKED[:15], 30, [], [], "settle: a.chart refused 1 15 (the file has fewer than 16 bytes)", 1),
-    ("another length", worked(length=51), 30, [], [], "settle: a.chart refused 1 14 (the length field is not the size of the file)", 1),
-    ("70,000 bytes", WORKED + bytes(70000), 30, [], [], "settle: a.chart refused 1 14 (the length field is not the size of the file)", 1),
-    ("another kind", worked(kind=3), 30, [], [], "settle: a.chart refused 2 0 (the file holds another kind of chart)", 1),
-    ("no sections", chart(0, 1, 2, 4, [], []), 30, [], [], "settle: a.chart refused 3 2 (the number of sections is not from 1 to 32)", 1),
-    ("33 sections", chart(33, 1, 2, 1, [0] * 33, [[int(u == s) for u in range(33)] for s in range(33)]), 30, [], [],
-     "settle: a.chart refused 3 2 (the number of sections is not from 1 to 32)", 1),
-    ("discount 0", worked(a=0), 30, [], [], "settle: a.chart refused 4 4 (the discount a / b does not have 1 <= a < b <= 1000)", 1),
-    ("discount 1", worked(a=2), 30, [], [], "settle: a.chart refused 4 4 (the discount a / b does not have 1 <= a < b <= 1000)", 1),
-    ("denominator 1001", worked(b=1001), 30, [], [], "settle: a.chart refused 4 4 (the discount a / b does not have 1 <= a < b <= 1000)", 1),
-    ("no parts", worked(whole=0), 30, [], [], "settle: a.chart refused 5 8 (the kind of chart does not allow this whole)", 1),
-    ("10,001 parts", worked(whole=10001), 30, [], [], "settle: a.chart refused 5 8 (the kind of chart does not allow this whole)", 1),
-    ("bands in the header", worked(bands_at=15), 30, [], [], "settle: a.chart refused 6 10 (the bands do not lie in the file)", 1),
-    ("bands past the end", worked(bands_at=49, routes_at=17, size=52), 30, [], [], "settle: a.chart refused 6 10 (the bands do not lie in the file)", 1),
-    ("routes past the end", worked(routes_at=21, size=52), 30, [], [], "settle: a.chart refused 6 12 (the routes do not lie in the file, or share a byte with the bands)", 1),
-    ("a shared byte", worked(routes_at=19), 30, [], [], "settle: a.chart refused 6 12 (the routes do not lie in the file, or share a byte with the bands)", 1),
-    ("routes first, and bytes between", worked(routes_at=17, bands_at=60, size=70), 30, [line("upper", 0, 3, [0, 3, 3, 1, 3, 1])], ["weigh upper 0 3 = 15"], "", 0),
-    ("a row that does not add up", worked(rows=[[3, 1, 0, 0], [0, 4, 0, 0], [0, 2, 1, 0], [0, 0, 0, 5]]), 30, [], [], "settle: a.chart refused 7 2 (a row does not add up to the whole)", 1),
+WIDEST = [
+    (weigh("upper", 0, 1, WHOLE), "= 999000000"),
+    (weigh("upper", 0, 1, SHORT), "fault 104 31 (the amounts at section 31 do not add up to its part)"),
+    (weigh("upper", 0, 1, MORE), "fault 101 3075 (a pairing cannot have 3075 words: it has triples, at most 1,024)"),
+    (weigh("upper", 31, 31, WHOLE), "= 999000000"),
+    (weigh("lower", 0, 1, potentials({u: TOP for u in range(32)}, {v: -TOP for v in range(32)})), "= 0"),
+    (weigh("lower", 0, 1, potentials({u: TOP for u in range(32)}, {v: -TOP + 1 for v in range(32)})),
+     "fault 113 0 (the potentials of the successors at place 0 add up to more than their entry)"),
+    (weigh("lower", 0, 1, potentials({31: TOP + 1}, {})), "fault 112 31 (word 31 is further from 0 than the top)"),
+    (weigh("lower", 0, 1, potentials({}, {31: -2147483648})), "fault 112 63 (word 63 is further from 0 than the top)"),
+    (weigh("lower", 0, 1, [0] * 63), "fault 111 63 (potentials cannot have 63 words: they have two for each section)"),
+    (weigh("upper", 32, 0, []), FAULT_100),
+    (weigh("upper", 0, 31, []), "fault 104 0 (the amounts at section 0 do not add up to its part)"),
+]
+
+GREATEST = [
+    (weigh("lower", 0, 1, potentials({2: TOP}, {})), "= 999000000"),
+    (weigh("lower", 0, 1, potentials({2: TOP}, {20: 1})),
+     "fault 113 84 (the potentials of the successors at place 84 add up to more than their entry)"),
+    (weigh("lower", 0, 1, potentials({2: -TOP}, {20: -TOP})), "= 0"),
+    (weigh("upper", 0, 1, [2, 20, 10000]), "= 999000000"),
+    (weigh("upper", 0, 16, []), FAULT_100),
+]
+
+LEAST = [
+    (weigh("upper", 0, 3, [0, 3, 3, 1, 3, 1]), "= 1"),
+    (weigh("lower", 0, 3, [0, 1] + [0] * 6), "= 0"),
+    (weigh("lower", 0, 3, [0, 2] + [0] * 6), "fault 112 1 (word 1 is further from 0 than the top)"),
+]
+
+# on `split` over the greatest top, each refusal, and nothing entered
+REFUSALS = [
+    ("ask 31 32", f"refused 80 {OUTSIDE}"),
+    ("ask 4294967295 0", f"refused 80 {OUTSIDE}"),
+    ("abandon", "refused 70 (no draft is open)"),
+    ("enter", "refused 60 (no draft takes showings)"),
+    ("show 32 0", "refused 50 (no draft takes showings)"),
+    ("close", "refused 40 (no draft takes claims)"),
+    ("claim 32 0 0", "refused 30 (no draft takes claims)"),
+    ("open lower", "= 0"),
+    ("open upper", "refused 20 (a draft is open)"),
+    ("close", "refused 41 (the draft has no claims)"),
+    ("claim 15 32 0", f"refused 31 {OUTSIDE}"),
+    ("claim 31 15 1000000001", "refused 32 (the pair is apart)"),
+    ("claim 31 31 1000000001", LOOSE),
+    ("claim 31 31 4294967295", LOOSE),
+    ("claim 31 31 1000000000", "= 1"),
+    ("claim 31 31 1000000001", "refused 33 (the draft has a claim for the pair)"),
+    ("claim 31 30 0", "= 2"),
+    ("close", "= 2"),
+    ("show 32 31", f"refused 51 {OUTSIDE}"),
+    ("show 15 31", "refused 52 (the draft has no claim for the pair)"),
+    ("show 31 30" + " 0" * 64, "= 1"),
+    ("show 31 30", "refused 53 (the claim is shown already)"),
+    ("show 31 31", "refused 54 111 0 (potentials cannot have 0 words: they have two for each section)"),
+    ("show 31 31" + " 0" * 31 + " 1000000000" + " 0" * 32, "refused 55 999000000 (the potentials show no claim above 999000000)"),
+    ("enter", "refused 61 31 31 (the claim for sections 31 and 31 is not shown)"),
+    ("abandon", "= 2"),
+    ("open upper", "= 0"),
+    ("claim 0 1 1000000001", LOOSE),
+    ("claim 0 1 998999999", "= 1"),
+    ("close", "= 1"),
+    ("show 0 1 2 20 10000", "refused 55 999000000 (the pairing shows no claim below 999000000)"),
+    ("abandon", "= 1"),
+]
+
+# name, the chart's bytes, the top, a script, and the entries that it changes
+PLAYED = [
+    ("a script with no calls", WORKED, 30, [], {}),
+    ("the widest chart", wide(), TOP, WIDEST, {}),
+    ("the greatest claim", split(), TOP, GREATEST, {}),
+    ("the least top", WORKED, 1, LEAST, {}),
+    ("routes first, and bytes between", worked(routes_at=17, bands_at=60, size=70), 30, [(weigh("upper", 0, 3, [0, 3, 3, 1, 3, 1]), "= 15")], {}),
+    ("one section", chart(1, 1, 2, 1, [0], [[1]]), 1, draft("upper", {(0, 0): (0, [0, 0, 1])}), {(0, 0): (0, 0)}),
+    ("each refusal", split(), TOP, REFUSALS, {}),
+    ("all calls on 32 sections", split(), TOP,
+     [("open lower", "= 0"), ("abandon", "= 0")] + split_certificate() + [("ask 1 15", "= 999000000 999000000 settled"), ("ask 0 31", "= 1000000000 1000000000 apart")],
+     {pair: (d, d) for pair, d in split_distances().items()}),
+    ("every pair of 32 sections", wide(), TOP, draft("upper", {(s, t): (0, WHOLE) for s in range(32) for t in range(32)}),
+     {(s, t): (0, 0) for s in range(32) for t in range(32)}),
+    ("a draft that is not entered", WORKED, 30, draft("upper", {(0, 3): (6, [0, 3, 3, 1, 3, 1])})[:-1], {}),
+]
+
+NUMBER = "is not a whole number from 0 to 4294967295"
+WORD = "is not a whole number from -2147483648 to 2147483647"
+
+# a malformed line, and what is said of it
+MALFORMED = [
+    ("opens upper", "the first field is no command"),
+    ("ASK 0 3", "the first field is no command"),
+    ("open", "there are too few fields"),
+    ("open under x", "field 1 is neither upper nor lower"),
+    ("open upper 0", "there are too many fields"),
+    ("claim 0 3", "there are too few fields"),
+    ("claim zero 3 6", f"field 1 {NUMBER}"),
+    ("claim 0 +3 6", f"field 2 {NUMBER}"),
+    ("claim 0 3 4294967296", f"field 3 {NUMBER}"),
+    ("claim 0 3 6 6", "there are too many fields"),
+    ("close upper", "there are too many fields"),
+    ("show 0", "there are too few fields"),
+    ("show upper 0 3", f"field 1 {NUMBER}"),
+    ("show 0 -3 0", f"field 2 {NUMBER}"),
+    ("show 0 3 0 3 3 1 3 one", f"word 5 {WORD}"),
+    ("enter 0", "there are too many fields"),
+    ("abandon 0", "there are too many fields"),
+    ("ask 0", "there are too few fields"),
+    ("ask x 3", f"field 1 {NUMBER}"),
+    ("ask 0 3.", f"field 2 {NUMBER}"),
+    ("ask 0 3 6", "there are too many fields"),
+    ("weigh 0 3", "field 1 is neither upper nor lower"),
+    ("weigh upper 0 x", f"field 3 {NUMBER}"),
+    ("weigh lower 0 3 2147483648", f"word 0 {WORD}"),
+]
+
+TOP_REFUSED = "TOP refused 11 (the top is not a whole number from 1 to 1,000,000,000)"
+LENGTH = "the length field is not the size of the file"
+SECTIONS = "the number of sections is not from 1 to 32"
+DISCOUNT = "the discount a / b does not have 1 <= a < b <= 1000"
+PARTS = "the kind of chart does not allow this whole"
+BANDS = "the bands do not lie in the file"
+ROUTES = "the routes do not lie in the file, or share a byte with the bands"
+
+# name, the chart's bytes, the top, and what is said of them
+REFUSED = [
+    ("top 0", WORKED, 0, TOP_REFUSED),
+    ("one above the greatest top", WORKED, TOP + 1, TOP_REFUSED),
+    ("a top in words", WORKED, "thirty", TOP_REFUSED),
+    ("an empty file", b"", 30, "a.chart refused 1 0 (the file has fewer than 16 bytes)"),
+    ("15 bytes", WORKED[:15], 30, "a.chart refused 1 15 (the file has fewer than 16 bytes)"),
+    ("another length", worked(length=51), 30, f"a.chart refused 1 14 ({LENGTH})"),
+    ("70,000 bytes", WORKED + bytes(70000), 30, f"a.chart refused 1 14 ({LENGTH})"),
+    ("another kind", worked(kind=3), 30, "a.chart refused 2 0 (the file holds another kind of chart)"),
+    ("no sections", chart(0, 1, 2, 4, [], []), 30, f"a.chart refused 3 2 ({SECTIONS})"),
+    ("33 sections", chart(33, 1, 2, 1, [0] * 33, [[int(u == s) for u in range(33)] for s in range(33)]), 30, f"a.chart refused 3 2 ({SECTIONS})"),
+    ("discount 0", worked(a=0), 30, f"a.chart refused 4 4 ({DISCOUNT})"),
+    ("discount 1", worked(a=2), 30, f"a.chart refused 4 4 ({DISCOUNT})"),
+    ("denominator 1001", worked(b=1001), 30, f"a.chart refused 4 4 ({DISCOUNT})"),
+    ("no parts", worked(whole=0), 30, f"a.chart refused 5 8 ({PARTS})"),
+    ("10,001 parts", worked(whole=10001), 30, f"a.chart refused 5 8 ({PARTS})"),
+    ("bands in the header", worked(bands_at=15), 30, f"a.chart refused 6 10 ({BANDS})"),
+    ("bands past the end", worked(bands_at=49, routes_at=17, size=52), 30, f"a.chart refused 6 10 ({BANDS})"),
+    ("routes past the end", worked(routes_at=21, size=52), 30, f"a.chart refused 6 12 ({ROUTES})"),
+    ("a shared byte", worked(routes_at=19), 30, f"a.chart refused 6 12 ({ROUTES})"),
+    ("a row that does not add up", worked(rows=[[3, 1, 0, 0], [0, 4, 0, 0], [0, 2, 1, 0], [0, 0, 0, 5]]), 30,
+     "a.chart refused 7 2 (a row does not add up to the whole)"),
+]
+
+# what the program writes of examples/worked.calls, before the report
+EXAMPLE = [
+    "open upper = 0", "claim 0 3 6 = 1", "close = 1", "show 0 3 = 0", "enter = 1",
+    "open lower = 0", "claim 0 3 6 = 1", "close = 1",
+    "show 0 3 refused 54 113 3 (the potentials of the successors at place 3 add up to more than their entry)",
+    "show 0 3 = 0", "enter = 1",
+    "ask 0 3 = 6 6 settled",
 ]
 
 
-def run(program, arguments, lines, folder):
-    text = "".join(l + "\n" for l in lines)
-    return subprocess.run([program, *arguments], input=text, capture_output=True, text=True, timeout=60, cwd=folder)
+def cases():
+    """Each run: its name, the chart's bytes, the arguments, the input, and what the program must write and how it must end."""
+    here = ["a.chart", "30"]
+    for name, file, top, script, entries in PLAYED:
+        # no line feed after the last line: the stored run has one
+        yield name, file, ["a.chart", str(top)], "\n".join(line for line, _ in script), played(file, top, script, entries), "", 0
+    for line, said in MALFORMED:
+        yield line, WORKED, here, f"# first\n\nask 0 3\n{line}\nask 0 3\n", ["ask 0 3 = 0 30 open"], f"settle: line 4: {said}", 1
+    for name, file, top, said in REFUSED:
+        yield name, file, ["a.chart", str(top)], "ask 0 3\n", [], f"settle: {said}", 1
+    for arguments in [[], ["a.chart"], ["a.chart", "30", "30"]]:
+        yield f"{len(arguments)} arguments", WORKED, arguments, "ask 0 3\n", [], "usage: settle CHART TOP < CALLS", 1
+    yield "no such file", WORKED, ["none.chart", "30"], "", [], "settle: none.chart cannot be read (No such file or directory (os error 2))", 1
+    for name, answers, accepted, refused, entries in [("worked.calls", EXAMPLE, 11, 1, {(0, 3): (6, 6)}), ("worked.lines", weighings(), 0, 0, {})]:
+        text = (ROOT / "examples" / name).read_text()
+        yield name, (ROOT / "examples/worked.chart").read_bytes(), here, text, answers + report(WORKED, 30, accepted, refused, entries), "", 0
+
+
+def weighings():
+    """What the stored run has of its weighings in the starting tables, which are those of examples/worked.lines."""
+    stored = (ROOT / "crates/settle/stdout").read_text().splitlines()
+    return list(itertools.takewhile(lambda line: line.startswith("weigh"), stored))
 
 
 def main():
     program = str(pathlib.Path(sys.argv[1]).resolve())
-    wrong = 0
+    runs = wrong = 0
     with tempfile.TemporaryDirectory() as folder:
-        path = pathlib.Path(folder) / "a.chart"
-        for name, bytes_, top, lines, out, err, status in CASES:
-            path.write_bytes(bytes_)
-            got = run(program, ["a.chart", str(top)], lines, folder)
+        for name, file, arguments, text, out, err, status in cases():
+            (pathlib.Path(folder) / "a.chart").write_bytes(file)
+            got = subprocess.run([program, *arguments], input=text, capture_output=True, text=True, timeout=60, cwd=folder)
             want = ("".join(l + "\n" for l in out), err + "\n" if err else "", status)
+            runs += 1
             if (got.stdout, got.stderr, got.returncode) != want:
                 wrong += 1
                 print(f"tests/run.py: {name}: got {(got.stdout, got.stderr, got.returncode)}, not {want}")
-        for arguments, err in [([], "usage: settle CHART TOP < LINES"), (["a.chart"], "usage: settle CHART TOP < LINES")]:
-            got = run(program, arguments, [], folder)
-            if (got.stdout, got.stderr, got.returncode) != ("", err + "\n", 1):
-                wrong += 1
-                print(f"tests/run.py: {len(arguments)} arguments: got {(got.stdout, got.stderr, got.returncode)}")
-        got = run(program, ["none.chart", "30"], [], folder)
-        if got.stdout or not got.stderr.startswith("settle: none.chart cannot be read (") or got.returncode != 1:
-            wrong += 1
-            print(f"tests/run.py: a file that is not there: got {(got.stdout, got.stderr, got.returncode)}")
-    print(f"tests/run.py: {len(CASES) + 3} runs, {wrong} wrong")
+    print(f"tests/run.py: {runs} runs, {wrong} wrong")
     return 1 if wrong else 0
 
 

@@ -1,14 +1,15 @@
 -- Weighted charts keep every law of a kind, and their supported tables are nowhere raised.
-use Rattle.std.proofs.Common.{◌≡◌, ℕ, ◌*◌, ◌<◌, ◌≤◌, true, List, length, ℤ, pos, ◌*ℤ◌, Some, None, Err, Option, sym, refl, ap, ◌∙◌, inl, inr, ⊎_elim, le_trans, mul-le-mul, mul-le-mul_left, mul-pos, arith}
+use Rattle.std.proofs.Common.{◌≡◌, ℕ, zero, suc, ◌+◌, ◌-◌, ◌*◌, ◌/◌, ◌%◌, ◌<◌, ◌≤◌, true, List, length, ℤ, pos, ◌*ℤ◌, Some, None, Err, Option, sym, refl, ap, ◌∙◌, inl, inr, ⊎_elim, le_trans, mul-le-mul, mul-le-mul_left, mul-pos, arith}
 use borrow.Author.Differences.{le_out, at_most_in}
 use Rattle.std.proofs.lemmas.Bool.{true_from_ne_false, cases_lt, eq-eqb, not_from_true}
+use Rattle.std.specs.List.{AllByRecursion}
 use Rattle.finite.specs.Sums.{sum}
 use Rattle.finite.proofs.Sums.{sum_le, sum_mul}
 use Rattle.chart.specs.declared.side.Side.{Side}
 use Rattle.chart.specs.declared.side.Side.TheVariants.{Upper, Lower}
 use Rattle.chart.specs.Distances.{Distances}
 use Rattle.chart.specs.Weighing.{Weaker, Weighs}
-use Rattle.chart.specs.Meaning.{Judged, Shown}
+use Rattle.chart.specs.Meaning.{Judged, Shown, Word}
 use Rattle.chart.specs.Laws.{Tighter, Lawful}
 use Rattle.chain.specs.declared.fault.Fault.{Fault}
 use Rattle.chain.specs.declared.fault.Fault.TheVariants.{Unjudged}
@@ -18,6 +19,8 @@ use Rattle.chain.specs.Potentials.{gain, Potentials, PotentialsShow, potentials_
 use Rattle.chain.specs.Meaning.{Valid, Shows, answer, weighed, means}
 use Rattle.chain.specs.Coupling.{Coupling, total, MeanAtMost, SupportedIsNowhereRaised}
 use Rattle.chain.proofs.Valid.{judges_from, pairing_from, pairing_to, potentials_from, potentials_to}
+use Rattle.chain.specs.Words.{word}
+use Rattle.chain.proofs.Words.{between_word, each_word}
 use Rattle.chain.proofs.Claims.{least_shown, greatest_shown}
 use Rattle.chain.proofs.Couplings.{left_in, right_in, spelled, spelled_total, mean_shown, product, mass, potentials_bounded}
 use Rattle.chain.proofs.Diagonal.{itself}
@@ -46,6 +49,20 @@ module _ (c : Chain) (sound : Sound c) where
 
   is_unjudged : (s t : ℕ) → (Judged (means c) s t → ⊥) → unjudged c s t ≡ true
   is_unjudged s t h = true_from_ne_false (unjudged c s t) (λ e. h (judged_of s t (judges_from c s t e)))
+
+  -- by the place in its triple
+  pairing_words : (d : Distances) (s t : ℕ) (ws : List ℤ) → Valid c Upper d s t ws → AllByRecursion Word ws
+  pairing_words d s t ws v = each_word Word ws (λ i l. by i l (i % 3) refl) where
+    by : (i : ℕ) → i < length ws → (k : ℕ) → i % 3 ≡ k → Word (word ws i)
+    by i l zero e =
+        let at : 3 * (i / 3) ≡ i = omega arith in
+        between_word 0 (c.n - 1) (word ws i) (omega (arith, sound.n_most)) (rw at at (v.left_word (i / 3) (omega (arith, v.threes))))
+    by i l (suc zero) e =
+        let at : 3 * (i / 3) + 1 ≡ i = omega arith in
+        between_word 0 (c.n - 1) (word ws i) (omega (arith, sound.n_most)) (rw at at (v.right_word (i / 3) (omega (arith, v.threes))))
+    by i l (suc (suc k)) e =
+        let at : 3 * (i / 3) + 2 ≡ i = omega arith in
+        between_word 1 c.whole (word ws i) (omega (arith, sound.whole_most)) (rw at at (v.amount_word (i / 3) (omega (arith, v.threes))))
 
   short : (side : Side) (d : Distances) (s t : ℕ) (ws : List ℤ) → Valid c side d s t ws → length ws ≤ 3072
   short Upper d s t ws v = v.few
@@ -90,6 +107,7 @@ module _ (c : Chain) (sound : Sound c) where
     longest_most = omega arith;
     weighs = weighs;
     unjudged = λ side d s t ws h. (Unjudged, outside_first side d s t ws (is_unjudged s t h), refl);
+    words = pairing_words;
     short = short;
     self_judged = λ s. not_from_true _ (eq-eqb (c.band s) (c.band s) refl);
     self_paired = λ s l.
@@ -128,8 +146,8 @@ module _ (c : Chain) (sound : Sound c) where
     apart = sup.apart;
     judged = λ s t j. ⊎_elim
         (λ low.
-        let shown = sup.judged s t (judged_of s t j) low in
-        (spelled c s t shown.0 shown.1.valid, mean_shown c s t shown.0 shown.1.valid d (d.entry s t) shown.1.shows))
+        let (ws, words, shown) = sup.judged s t (judged_of s t j) low in
+        (spelled c s t ws shown.valid, mean_shown c s t ws shown.valid d (d.entry s t) shown.shows))
         (λ high.
         let top : d.entry s t ≡ d.top = omega (arith, sup.bounded s t j.first_in j.second_in) in
         let k = product c sound s t j.first_in j.second_in in

@@ -5,3 +5,4 @@ pub mod Claims
 pub mod Diagonal
 pub mod Laws
 pub mod Exits
+pub mod Registers

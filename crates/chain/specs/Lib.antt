@@ -6,3 +6,4 @@ pub mod Faults
 pub mod Lines
 pub mod Meaning
 pub mod Coupling
+pub mod Registers

@@ -1,16 +1,11 @@
 -- The laws that every kind of chart keeps.
-use Rattle.std.specs.Prelude.{◌≡◌, ℕ, ◌+◌, ◌*◌, ◌<◌, ◌≤◌, false, List, [], ◌∷◌, length, ℤ, pos, negsuc, Err}
+use Rattle.std.specs.Prelude.{◌≡◌, ℕ, ◌+◌, ◌*◌, ◌<◌, ◌≤◌, false, List, [], ◌∷◌, length, ℤ, Err}
 use Rattle.std.specs.List.{AllByRecursion}
 use Rattle.chart.specs.declared.side.Side.{Side}
 use Rattle.chart.specs.declared.side.Side.TheVariants.{Upper, Lower}
 use Rattle.chart.specs.Distances.{Distances}
 use Rattle.chart.specs.Weighing.{Weaker, Weighs}
-use Rattle.chart.specs.Meaning.{Meaning, Judged, Shown}
-
--- a signed 32-bit word
-abbrev pub Word : ℤ → Type 0
-Word (pos n) = n < 2147483648
-Word (negsuc n) = n < 2147483648
+use Rattle.chart.specs.Meaning.{Meaning, Judged, Shown, Word}
 
 -- d and e have one top, and no entry of d asks less than that of e
 pub record Tighter (side : Side) (n : ℕ) (d e : Distances) : Type 0 where
@@ -33,6 +28,8 @@ module _ {F : Type 0} (m : Meaning F) where
     pub weighs : (side : Side) (d : Distances) (s t : ℕ) (ws : List ℤ) → Weighs side (m.valid side d s t ws) (m.shows side d s t ws) (m.weigh side d s t ws)
     -- before all others comes fault 100, place 0: the pair is apart or has a section that the chart has not
     pub unjudged : (side : Side) (d : Distances) (s t : ℕ) (ws : List ℤ) → (Judged m s t → ⊥) → (f : F) × (m.weigh side d s t ws ≡ Err f) × (m.numbers f ≡ 100 ∷ 0 ∷ [])
+    -- a pairing is a run of signed 32-bit words
+    pub words : (d : Distances) (s t : ℕ) (ws : List ℤ) → m.valid Upper d s t ws → AllByRecursion Word ws
     pub short : (side : Side) (d : Distances) (s t : ℕ) (ws : List ℤ) → m.valid side d s t ws → length ws ≤ m.longest
     -- no section is apart from itself, and a pairing of it with itself shows 0 in every table with zeros at all pairs (x, x)
     pub self_judged : (s : ℕ) → m.apart s s ≡ false

@@ -7,5 +7,6 @@ pub mod Laws
 pub mod Starting
 pub mod Supported
 pub mod Same
+pub mod Told
 pub mod Cells
 pub mod Texts

@@ -1,7 +1,12 @@
 -- What a chart of any kind means.
-use Rattle.std.specs.Prelude.{◌≡◌, ℕ, ◌<◌, Bool, false, List, ℤ, Result}
+use Rattle.std.specs.Prelude.{◌≡◌, ℕ, ◌<◌, Bool, false, List, ℤ, pos, negsuc, Result}
 use Rattle.chart.specs.declared.side.Side.{Side}
 use Rattle.chart.specs.Distances.{Distances}
+
+-- a signed 32-bit word; a showing is a list of them
+abbrev pub Word : ℤ → Type 0
+Word (pos n) = n < 2147483648
+Word (negsuc n) = n < 2147483648
 
 -- F is the kind's type of faults; a showing is a list of whole numbers, on the upper side a pairing, on the lower side potentials
 pub record Meaning (F : Type 0) : Type 1 where

@@ -6,7 +6,6 @@ use chart::side::Side;
 use std::fmt;
 
 /// What a line asks for.
-// Not that of `lines`, whose reader answers weighings alone.
 #[derive(Clone, Copy, PartialEq, Eq, Debug)]
 pub enum Command {
     /// `open upper|lower`: a draft of claims on that side is to be opened.

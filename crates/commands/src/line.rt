@@ -88,7 +88,6 @@ fn read_command(name: Name, bytes: &[u8], words: &mut Vec<i32>) -> Result<Comman
 ///
 /// A line that is passed over asks for nothing. Of several things that are wrong, the answer is the first in the line.
 /// Memory is wanting only if `words` has room for fewer words than the line has fields.
-// Not one with the reader of `lines`, which refuses all that is no weighing.
 pub fn read_line(line: &[u8], words: &mut Vec<i32>) -> Result<Option<Command>, Malformed>
     ensures { ((result ≡ Err Memory) × (vec_capacity words.old < length (fields line.now))) ⊎ (with_words result words.new.items ≡ line_read line.now) }
 {

@@ -4,7 +4,6 @@
 
 #[cfg(test)]
 mod tests {
-    // The cases of `lines` are here again, with others: this reader is to answer them alike.
     use chart::side::Side;
     use commands::command::Command;
     use commands::line::read_line;

@@ -8,3 +8,5 @@ pub mod Sending
 pub mod Resting
 pub mod Agreement
 pub mod Promises
+pub mod Histories
+pub mod Lines

@@ -196,7 +196,7 @@ module _ {F : Type 0} (m : Meaning F) (K : ℕ) where
                                 elim (cases_result (m.weigh e (weighed_in m K e d σ) s t ws)) [
                                   | inr (f, w) ↦ refuse c (Fault f) (Rules.show_54 e d b f ph w) low
                                   | inl (x, w) ↦ elim (cases_short e x v) [
-                                    | inl short ↦ refuse c (Bound x) (Rules.show_55 e d b v x ph is w short) (past_faults s t x ws e d b ph w low)
+                                    | inl short ↦ refuse c (Bound e x) (Rules.show_55 e d b v x ph is w short) (past_faults s t x ws e d b ph w low)
                                     | inr reach ↦ (_, _, accepts (showable m K σ e d b s t v x ws ph i is none w reach) (Rules.shown e d b ph))
                                   ]
                                 ]

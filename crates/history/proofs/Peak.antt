@@ -5,7 +5,8 @@ use Rattle.chart.specs.declared.side.Side.TheVariants.{Lower}
 use Rattle.chart.specs.Distances.{Distances}
 use Rattle.chart.specs.Meaning.{Meaning, Judged, Shown}
 use Rattle.chart.specs.Laws.{Lawful, Within}
-use Rattle.history.specs.Bounding.{Bounding, SupportedIsBounding}
+use Rattle.chart.specs.Supported.{Supported}
+use Rattle.history.specs.Bounding.{Bounding}
 use Rattle.history.specs.Promises.{Below}
 
 -- the greatest of the values at the numbers below n
@@ -26,12 +27,12 @@ peak_pair n f h =
     (s, (row s).0, s-lt, (row s).1, λ x y hx hy. omega (arith, (row x).2 y hy, most x hx))
 
 module _ {F : Type 0} (m : Meaning F) (lawful : Lawful m) where
-  pub supported_bounding : SupportedIsBounding m
+  pub supported_bounding : (e : Distances) → Supported m e → Bounding m e
   supported_bounding e sup = record {
     top_least = sup.top_least;
     apart = sup.apart;
     holds = λ s t j low l potentials x k shown near.
-        let (pairing, paired) = sup.judged s t j low in
+        let (pairing, words, paired) = sup.judged s t j low in
         lawful.cross l e s t potentials pairing x (e.entry s t) k sup.top_least shown paired near;
   }
 

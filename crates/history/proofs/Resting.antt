@@ -4,7 +4,7 @@ use Rattle.chart.specs.Meaning.{Meaning}
 use Rattle.history.specs.Calls.{Call, Answer, Page}
 use Rattle.history.specs.Rules
 use Rattle.history.specs.Rules.{State, Phase, resting, Draft, written, Effect, Step, refuses, accepts, Run, rest, turn}
-use Rattle.history.specs.Promises.{Opens, Ends, SomeEnds, EachEnded, RestsByHistory}
+use Rattle.history.specs.Promises.{Always, Opens, Ends, SomeEnds, EachEnded}
 
 -- what a page does to rest, from the phase x to the phase y
 data Turns {F : Type 0} (p : Page F) (x y : Phase) : Type 0 where
@@ -36,5 +36,5 @@ module _ {F : Type 0} (m : Meaning F) (K : ℕ) where
       join h (opened o n) later = grind arith
       join h (kept e o same) later = grind arith
 
-pub rests_by_history : {F : Type 0} (m : Meaning F) → RestsByHistory m
+pub rests_by_history : {F : Type 0} (m : Meaning F) → Always m (λ K σ h. (σ.phase ≡ resting) ↔ EachEnded h)
 rests_by_history m K k σ h run = let both = run_rests m K run in grind arith

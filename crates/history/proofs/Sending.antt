@@ -15,7 +15,7 @@ use Rattle.history.specs.Calls.{Call, Show, Answer, Page}
 use Rattle.history.specs.Rules
 use Rattle.history.specs.Rules.{State, resting, claiming, showing, Draft, Marks, put, laid, side_of, with_phase, written, over, Effect, refuses, accepts, Run, rest, turn}
 use Rattle.history.specs.Certificate.{Certificate, Pair, among, Distinct, Lists, claim_of, show_of, draft_calls, Positive, Sent, all_0, some_above}
-use Rattle.history.specs.Promises.{calls, EachAccepted, Settles, Enters, CertificateEnters}
+use Rattle.history.specs.Promises.{Always, calls, EachAccepted, Settles, Enters, TakesCertificates}
 use Rattle.history.proofs.Cases.{absurd_bool, cases_result}
 use Rattle.history.proofs.Peak.{supported_bounding, below}
 use Rattle.history.proofs.Sound.{Sound, always_sound, Fits, answer_strongest, fault_unshown}
@@ -154,7 +154,7 @@ module _ {F : Type 0} (m : Meaning F) (lawful : Lawful m) (K : ℕ) (k : InRange
   table = over K cert.entry
 
   supported : Supported m table
-  supported = record { top_least = k.0; bounded = cert.bounded; apart = cert.apart; judged = λ s t j low. (cert.pairing s t, (cert.paired s t j).1) }
+  supported = record { top_least = k.0; bounded = cert.bounded; apart = cert.apart; judged = λ s t j low. let (words, shown) = cert.paired s t j in (cert.pairing s t, words, shown) }
 
   under_upper : (x y : ℕ) → x < m.sections → y < m.sections → cert.entry x y ≤ σ.upper x y
   under_upper x y hx hy = le_of_mul-le-mul_right (below m lawful table (over K σ.upper) (supported_bounding m lawful _ sound.upper) (λ s t hs ht. elim (cases_Bool (m.apart s t)) [
@@ -217,5 +217,5 @@ module _ {F : Type 0} (m : Meaning F) (lawful : Lawful m) (K : ℕ) (k : InRange
   sent_enters quiet (some_above ps qs us vs s t lp lq lu lv one) =
       enters_by m K cert σ _ _ (then m K (first_goes ps qs lp lq quiet) (second_goes ps qs lp lq us vs lu lv s t one)) (last_settles ps qs lp lq us vs lu lv)
 
-pub certificate_enters : {F : Type 0} (m : Meaning F) → Lawful m → CertificateEnters m
+pub certificate_enters : {F : Type 0} (m : Meaning F) → Lawful m → Always m (λ K σ h. TakesCertificates m K σ)
 certificate_enters m lawful K k σ h run quiet cert cs sent = sent_enters m lawful K k cert σ (always_sound m lawful K k σ h run) quiet sent

@@ -16,7 +16,7 @@ use Rattle.history.specs.Calls.{Call, Show, Answer, Page}
 use Rattle.history.specs.Rules
 use Rattle.history.specs.Rules.{State, Phase, resting, claiming, showing, Draft, Marks, laid, side_of, with_phase, written, over, Outside, Unfit, Ground, Effect, Step, refuses, accepts, Run, rest, turn, fresh, weighed_in}
 use Rattle.history.specs.Bounding.{Bounding}
-use Rattle.history.specs.Promises.{Below, UpperSupported, LowerBounded, LowerTrue}
+use Rattle.history.specs.Promises.{Always, Below}
 use Rattle.history.proofs.Cases.{absurd_bool, absurd_option, at_put, at_laid, cases_result, cases_shown, reaches}
 use Rattle.history.proofs.Peak.{supported_bounding, below}
 
@@ -87,7 +87,7 @@ module _ {F : Type 0} (m : Meaning F) (lawful : Lawful m) (K : ℕ) where
   shown_now : (σ : State) (e : Side) (d : Draft) (b : Marks) (s t : ℕ) (ws : List ℤ) (v : ℕ) → ((q : Refusal F) → Ground m K σ (Show s t ws) q → ⊥)
       → σ.phase ≡ showing e d b → d s t ≡ Some v → Shown m e (weighed_in m K e d σ) s t ws v
   shown_now σ e d b s t ws v ok ph is = elim (cases_result (m.weigh e (weighed_in m K e d σ) s t ws)) [
-    | inl (c, w) ↦ lawful.closed e _ s t ws c v (answer_shown m lawful e _ s t ws c w) (reaches e c v (λ short. ok (Bound c) (Rules.show_55 e d b v c ph is w short)))
+    | inl (c, w) ↦ lawful.closed e _ s t ws c v (answer_shown m lawful e _ s t ws c w) (reaches e c v (λ short. ok (Bound e c) (Rules.show_55 e d b v c ph is w short)))
     | inr (f, w) ↦ absurd (ok (Fault f) (Rules.show_54 e d b f ph w))
   ]
 
@@ -109,10 +109,10 @@ module _ {F : Type 0} (m : Meaning F) (lawful : Lawful m) (K : ℕ) where
       bounded = λ s t hs ht. elim (at_laid d σ.upper s t) [ inl (v, is, eq) ↦ rw eq (fit s t v is).top | inr (is, eq) ↦ rw eq (sound.upper.bounded s t hs ht) ];
       apart = λ s t hs ht a. rw (kept_apart Upper σ.upper d s t fit a) (sound.upper.apart s t hs ht a);
       judged = λ s t j low. elim (at_laid d σ.upper s t) [
-        | inl (v, is, eq) ↦ rw eq (all s t v is)
+        | inl (v, is, eq) ↦ let (ws, shown) = all s t v is in rw eq (ws, lawful.words _ s t ws shown.valid, shown)
         | inr (is, eq) ↦
-            let (ws, shown) = sound.upper.judged s t j (rw eq at low) in
-            rw eq (ws, lawful.monotone Upper (over K σ.upper) _ s t ws _ (tighter Upper σ.upper d fit) shown)
+            let (ws, words, shown) = sound.upper.judged s t j (rw eq at low) in
+            rw eq (ws, words, lawful.monotone Upper (over K σ.upper) _ s t ws _ (tighter Upper σ.upper d fit) shown)
       ];
     };
     lower = sound.lower;
@@ -164,11 +164,11 @@ module _ {F : Type 0} (m : Meaning F) (lawful : Lawful m) (K : ℕ) where
   always_sound k σ h run = run_sound run (fresh_sound k)
 
 module _ {F : Type 0} (m : Meaning F) (lawful : Lawful m) where
-  pub upper_supported : UpperSupported m
+  pub upper_supported : Always m (λ K σ h. Supported m (over K σ.upper))
   upper_supported K k σ h run = (always_sound m lawful K k σ h run).upper
 
-  pub lower_bounded : LowerBounded m
+  pub lower_bounded : Always m (λ K σ h. (e : Distances) → Bounding m e → Below m.sections (over K σ.lower) e)
   lower_bounded K k σ h run = (always_sound m lawful K k σ h run).lower
 
-  pub lower_true : LowerTrue m
+  pub lower_true : Always m (λ K σ h. (e : Distances) → Supported m e → Below m.sections (over K σ.lower) e)
   lower_true K k σ h run e sup = lower_bounded K k σ h run e (supported_bounding m lawful e sup)

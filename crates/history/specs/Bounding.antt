@@ -4,7 +4,6 @@ use Rattle.chart.specs.declared.side.Side.TheVariants.{Lower}
 use Rattle.chart.specs.Distances.{Distances}
 use Rattle.chart.specs.Laws.{Within}
 use Rattle.chart.specs.Meaning.{Meaning, Judged, Shown}
-use Rattle.chart.specs.Supported.{Supported}
 
 -- Apart pairs stand at the top. At each judged pair with an entry below the top: whatever the table l and its top,
 -- if no entry of l is above that of e by more than k, then what potentials show in l is above the entry of e by no more than the discount of k.
@@ -14,6 +13,3 @@ pub record Bounding {F : Type 0} (m : Meaning F) (e : Distances) : Type 0 where
   pub holds : (s t : ℕ) → Judged m s t → e.entry s t < e.top
       → (l : Distances) (potentials : List ℤ) (x k : ℕ) → Shown m Lower l s t potentials x → Within m.sections l e k
       → m.denominator * (x * e.top) ≤ m.denominator * (e.entry s t * l.top) + m.numerator * k
-
-abbrev pub SupportedIsBounding : {F : Type 0} → Meaning F → Type 0
-SupportedIsBounding m = (e : Distances) → Supported m e → Bounding m e

@@ -3,8 +3,7 @@ use Rattle.std.specs.Prelude.{◌≡◌, ℕ, ◌<◌, ◌≤◌, Bool, true, fa
 use Rattle.std.specs.List.{AllByRecursion}
 use Rattle.chart.specs.declared.side.Side.{Side}
 use Rattle.chart.specs.declared.side.Side.TheVariants.{Upper, Lower}
-use Rattle.chart.specs.Laws.{Word}
-use Rattle.chart.specs.Meaning.{Meaning, Judged, Shown}
+use Rattle.chart.specs.Meaning.{Meaning, Judged, Shown, Word}
 use Rattle.history.specs.Calls.{Call, Open, Claim, Close, Show, Enter}
 use Rattle.history.specs.Rules.{over}
 

@@ -2,9 +2,11 @@
 use Rattle.std.specs.Prelude.{◌≡◌, ℕ, ◌*◌, ◌<◌, ◌≤◌, ◌⊎◌, ◌↔◌, List, [], ◌∷◌, map, Ok, Result}
 use Rattle.chart.specs.declared.side.Side.{Side}
 use Rattle.chart.specs.Distances.{Distances}
+use Rattle.chart.specs.Laws.{Lawful}
 use Rattle.chart.specs.Meaning.{Meaning, Judged}
 use Rattle.chart.specs.Same.{Same}
 use Rattle.chart.specs.Supported.{Supported}
+use Rattle.chart.specs.Told.{Told, meaning_of, told_of}
 use Rattle.chart.specs.Tops.{InRange}
 use Rattle.history.specs.declared.verdict.Verdict.TheVariants.{Settled}
 use Rattle.history.specs.declared.refusal.Refusal.{Refusal}
@@ -16,6 +18,10 @@ use Rattle.history.specs.Certificate.{Certificate, Sent}
 -- in every state that a history leads to from a fresh register, over any top
 abbrev pub Always : {F : Type 0} → Meaning F → (ℕ → State → List (Page F) → Type 0) → Type 0
 Always {F} m P = (K : ℕ) → InRange K → (σ : State) (h : List (Page F)) → Run m K (fresh m K) h σ → P K σ h
+
+-- some history leads a register of the chart over the top to the state
+abbrev pub HasHistory : {F : Type 0} → Meaning F → ℕ → State → Type 0
+HasHistory {F} m K σ = ∥ ((h : List (Page F)) × Run m K (fresh m K) h σ) ∥₁
 
 -- no entry of l stands for a greater distance than that of e
 abbrev pub Below : ℕ → Distances → Distances → Type 0
@@ -31,24 +37,15 @@ OneOutcome {F} m K σ c =
 abbrev pub EachCallHasOneOutcome : {F : Type 0} → Meaning F → ℕ → Type 0
 EachCallHasOneOutcome m K = (σ : State) (c : Call) → OneOutcome m K σ c
 
--- ---- the entries
+-- ---- settled entries
 
--- the upper table is supported
-abbrev pub UpperSupported : {F : Type 0} → Meaning F → Type 0
-UpperSupported m = Always m (λ K σ h. Supported m (over K σ.upper))
-
--- no lower entry is above that of a table that bounds what potentials show, over whatever top
-abbrev pub LowerBounded : {F : Type 0} → Meaning F → Type 0
-LowerBounded m = Always m (λ K σ h. (e : Distances) → Bounding m e → Below m.sections (over K σ.lower) e)
-
--- nor above that of a supported table
-abbrev pub LowerTrue : {F : Type 0} → Meaning F → Type 0
-LowerTrue m = Always m (λ K σ h. (e : Distances) → Supported m e → Below m.sections (over K σ.lower) e)
+-- what is settled in σ over K and in τ over J is the same distance
+abbrev pub Agree : {F : Type 0} → Meaning F → ℕ → State → ℕ → State → Type 0
+Agree m K σ J τ = (s t : ℕ) → Judged m s t → σ.lower s t ≡ σ.upper s t → τ.lower s t ≡ τ.upper s t → σ.upper s t * J ≡ τ.upper s t * K
 
 -- what is settled in two registers of the same chart is the same distance, whatever the tops and the histories
 abbrev pub SettledAgree : {F G : Type 0} → Meaning F → Meaning G → Type 0
-SettledAgree m o = Same m o → Always m (λ K σ h. Always o (λ J τ g.
-    (s t : ℕ) → Judged m s t → σ.lower s t ≡ σ.upper s t → τ.lower s t ≡ τ.upper s t → σ.upper s t * J ≡ τ.upper s t * K))
+SettledAgree m o = Same m o → Always m (λ K σ h. Always o (λ J τ g. Agree m K σ J τ))
 
 -- ---- full certificates
 
@@ -84,9 +81,6 @@ module _ {F : Type 0} (m : Meaning F) (K : ℕ) where
   abbrev pub TakesCertificates : State → Type 0
   TakesCertificates σ = σ.phase ≡ resting → (cert : Certificate m K) (cs : List Call) → Sent m K cert cs → Enters cert σ cs
 
-abbrev pub CertificateEnters : {F : Type 0} → Meaning F → Type 0
-CertificateEnters m = Always m (λ K σ h. TakesCertificates m K σ)
-
 -- ---- rest
 
 -- an accepted open
@@ -109,22 +103,29 @@ abbrev pub EachEnded : {F : Type 0} → List (Page F) → Type 0
 EachEnded [] = Unit {0}
 EachEnded (p ∷ h) = (Opens p → SomeEnds h) × EachEnded h
 
--- the history tells whether a register rests
-abbrev pub RestsByHistory : {F : Type 0} → Meaning F → Type 0
-RestsByHistory m = Always m (λ K σ h. (σ.phase ≡ resting) ↔ EachEnded h)
-
 -- ---- one register
 
--- what a register of the chart m over the top K promises, in the state σ that the history h led to
+-- What a register of the chart m over the top K promises of the state σ that the history h led to.
 pub record Promise {F : Type 0} (m : Meaning F) (K : ℕ) (σ : State) (h : List (Page F)) : Type 0 where
+  -- chart, top and calls alone fix the tables, the answers and the refusals
+  pub alone : ByCallsAlone m K σ h
+  -- no false distance is in the tables: the upper one is supported, and no lower entry is above that of a supported table,
+  -- or of any table that bounds what potentials show
   pub upper : Supported m (over K σ.upper)
   pub lower : (e : Distances) → Supported m e → Below m.sections (over K σ.lower) e
   pub bounded : (e : Distances) → Bounding m e → Below m.sections (over K σ.lower) e
-  pub rests : (σ.phase ≡ resting) ↔ EachEnded h
+  -- no true one is kept out
   pub certificates : TakesCertificates m K σ
-  pub outcome : (c : Call) → OneOutcome m K σ c
-  pub alone : ByCallsAlone m K σ h
+  pub rests : (σ.phase ≡ resting) ↔ EachEnded h
 
--- it keeps the promise, whatever history led to the state
-abbrev pub Keeps : {F : Type 0} → Meaning F → ℕ → State → Type 0
-Keeps {F} m K σ = (h : List (Page F)) → Run m K (fresh m K) h σ → Promise m K σ h
+-- A register of the chart m over the top K, in the state σ, keeps its promise.
+pub record KeepsPromise {F : Type 0} (m : Meaning F) (K : ℕ) (σ : State) : Type 0 where
+  -- a history of calls led to the state, and whatever history did
+  pub history : HasHistory m K σ
+  pub promise : (h : List (Page F)) → Run m K (fresh m K) h σ → Promise m K σ h
+  -- in every state each call has one outcome
+  pub outcomes : EachCallHasOneOutcome m K
+  -- what is settled here and in a register of the same chart, though it be a value of another kind, is the same distance,
+  -- whatever its top and its history; other is that chart as its register sees it, and as this one sees its own
+  pub agrees : (other : Told) → Lawful (meaning_of other) → Same m (meaning_of other) → Always (meaning_of other) (λ J τ g. Agree m K σ J τ)
+  pub told : Same m (meaning_of (told_of m))

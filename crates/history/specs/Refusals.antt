@@ -17,7 +17,7 @@ number ShowOutside = 51
 number NoClaim = 52
 number ShownAlready = 53
 number (Fault f) = 54
-number (Bound c) = 55
+number (Bound side c) = 55
 number EnterNotShowing = 60
 number (Unshown s t) = 61
 number Resting = 70
@@ -38,11 +38,8 @@ carried fault ShowOutside = []
 carried fault NoClaim = []
 carried fault ShownAlready = []
 carried fault (Fault f) = fault f
-carried fault (Bound c) = c ∷ []
+carried fault (Bound side c) = c ∷ []
 carried fault EnterNotShowing = []
 carried fault (Unshown s t) = s ∷ t ∷ []
 carried fault Resting = []
 carried fault AskOutside = []
-
-abbrev pub numbers : {F : Type 0} → (F → List ℕ) → Refusal F → List ℕ
-numbers fault r = number r ∷ carried fault r

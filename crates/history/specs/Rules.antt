@@ -122,7 +122,7 @@ module _ {F : Type 0} (m : Meaning F) (K : ℕ) where
     show_54 : {s t : ℕ} {ws : List ℤ} (e : Side) (d : Draft) (b : Marks) (f : F) → σ.phase ≡ showing e d b
         → m.weigh e (weighed_in e d σ) s t ws ≡ Err f → Ground σ (Show s t ws) (Fault f)
     show_55 : {s t : ℕ} {ws : List ℤ} (e : Side) (d : Draft) (b : Marks) (v c : ℕ) → σ.phase ≡ showing e d b → d s t ≡ Some v
-        → m.weigh e (weighed_in e d σ) s t ws ≡ Ok c → Short e c v → Ground σ (Show s t ws) (Bound c)
+        → m.weigh e (weighed_in e d σ) s t ws ≡ Ok c → Short e c v → Ground σ (Show s t ws) (Bound e c)
     enter_60 : ((e : Side) (d : Draft) (b : Marks) → σ.phase ≢ showing e d b) → Ground σ Enter EnterNotShowing
     enter_61 : (e : Side) (d : Draft) (b : Marks) (s t v : ℕ) → σ.phase ≡ showing e d b → s < 32 → t < 32 → d s t ≡ Some v → b s t ≡ false
         → ((x y w : ℕ) → x < 32 → y < 32 → Before x y s t → d x y ≡ Some w → b x y ≡ true) → Ground σ Enter (Unshown s t)

@@ -3,5 +3,4 @@
 #![tactic(auto)]
 
 pub mod refusal;
-pub mod theorems;
 pub mod verdict;

@@ -1,9 +1,10 @@
 ghost use Rattle.std.specs.Prelude.{◌≡◌, ◌++◌, Some, decimal};
 ghost use Rattle.std.specs.Fmt.{DisplaysOnOk};
 ghost use Rattle.history.specs.declared.refusal.Refusal.TheVariants.{Fault};
-ghost use Rattle.history.specs.Lines.{line, reason};
+ghost use Rattle.history.specs.Lines.{limit_text, line, reason};
 ghost use Rattle.history.specs.Refusals.{number};
 
+use chart::side::Side;
 use std::fmt;
 use std::fmt::Display;
 
@@ -36,8 +37,8 @@ pub enum Refusal<F> {
     ShownAlready,
     /// Show: the showing is not valid, for this fault.
     Fault(F),
-    /// Show: the showing is valid, and its strongest claim is this bound, which does not reach the pair's claim.
-    Bound(u32),
+    /// Show: the showing is valid, and its strongest claim on the draft's side is this bound, which does not reach the pair's claim.
+    Bound(Side, u32),
     /// Enter: no draft takes showings.
     EnterNotShowing,
     /// Enter: the claim of this pair, the first such by its first section and then its second, is not shown.
@@ -75,7 +76,7 @@ impl<F> Refusal<F> {
             Refusal::NoClaim => 52,
             Refusal::ShownAlready => 53,
             Refusal::Fault(_) => 54,
-            Refusal::Bound(_) => 55,
+            Refusal::Bound(_, _) => 55,
             Refusal::EnterNotShowing => 60,
             Refusal::Unshown(_, _) => 61,
             Refusal::Resting => 70,
@@ -107,10 +108,7 @@ impl<F: Display> fmt::Display for Refusal<F> {
             Refusal::NoClaim => explain(f, number, "the draft has no claim for the pair"),
             Refusal::ShownAlready => explain(f, number, "the claim is shown already"),
             Refusal::Fault(fault) => write!(f, "{number} {fault}"),
-            Refusal::Bound(c) => write!(
-                f,
-                "{number} {c} (the strongest claim that is shown is {c})"
-            ),
+            Refusal::Bound(side, c) => write!(f, "{number} {c} ({} {c})", limit(*side)),
             Refusal::EnterNotShowing => explain(f, number, "no draft takes showings"),
             Refusal::Unshown(s, t) => write!(
                 f,
@@ -119,6 +117,16 @@ impl<F: Display> fmt::Display for Refusal<F> {
             Refusal::Resting => explain(f, number, "no draft is open"),
             Refusal::AskOutside => explain(f, number, "the chart has not both sections"),
         }
+    }
+}
+
+/// What a showing's strongest claim says, in words that the claim ends.
+fn limit(side: Side) -> &'static str
+    ensures { result.now ≡ limit_text side }
+{
+    match side {
+        Side::Upper => "the pairing shows no claim below",
+        Side::Lower => "the potentials show no claim above",
     }
 }
 

@@ -1,14 +1,7 @@
--- How a command and what is wrong with a line are written.
+-- How what is wrong with a line is written.
 use Rattle.std.specs.Prelude.{ℕ, List, ◌++◌, codes, decimal}
-use Rattle.chart.specs.Texts.{side_text}
-use Rattle.lines.specs.declared.command.Command.{Command}
-use Rattle.lines.specs.declared.command.Command.TheVariants.{Weigh}
 use Rattle.lines.specs.declared.malformed.Malformed.{Malformed}
 use Rattle.lines.specs.declared.malformed.Malformed.TheVariants.{UnknownCommand, TooFewFields, TooManyFields, NotASide, NotANumber, NotAWord, Memory}
-
--- the command's word and numbers, without a showing's words
-abbrev pub command_text : Command → List ℕ
-command_text (Weigh side s t) = codes "weigh " ++ (side_text side ++ (codes " " ++ (decimal s ++ (codes " " ++ decimal t))))
 
 abbrev pub malformed_text : Malformed → List ℕ
 malformed_text UnknownCommand = codes "the first field is no command"

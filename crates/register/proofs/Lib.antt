@@ -3,3 +3,5 @@ pub mod Values
 pub mod Steps
 pub mod Idle
 pub mod Playing
+pub mod Settled
+pub mod Kept

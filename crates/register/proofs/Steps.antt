@@ -167,8 +167,8 @@ module _ {F : Type 0} (m : Meaning F) (K : ℕ) where
               show_fault f w = refuses (Fault f) (Rules.show_54 e d b f ph w) from_54
 
               module _ (c : ℕ) (w : m.weigh e (weighed_in m K e d σ) s t ws ≡ Ok c) where
-                pub show_short : (x : Side) → x ≡ e → Short x c v → Step m K σ (Show s t ws) (Err (Bound c)) σ
-                show_short x ex short = refuses (Bound c) (Rules.show_55 e d b v c ph is w (rw ex at short)) (past_faults m K σ s t c ws e d b ph w from_54)
+                pub show_short : (x : Side) → x ≡ e → Short x c v → Step m K σ (Show s t ws) (Err (Bound x c)) σ
+                show_short x ex short = rw ex (refuses (Bound e c) (Rules.show_55 e d b v c ph is w (rw ex at short)) (past_faults m K σ s t c ws e d b ph w from_54))
 
                 pub show_answers : (x : Side) (b' : Marks) (n : ℕ) → x ≡ e → (Short x c v → ⊥) → b' ≡ put s t true b → n ≡ unshown d b' → Step m K σ (Show s t ws) (Ok (count n)) (with_phase σ (showing e d b'))
                 show_answers x b' n ex reach eb en = rw (en, eb) (accepts (showable m K σ e d b s t v c ws ph i is new w (rw ex at reach)) (Rules.shown e d b ph))

@@ -3,6 +3,7 @@
 #![tactic(auto)]
 
 pub mod call;
+pub mod contents;
 mod drafts;
 pub mod phase;
 pub mod register;

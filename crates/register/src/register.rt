@@ -1,20 +1,16 @@
-ghost use Rattle.std.specs.Prelude.{◌≤◌};
-ghost use Rattle.register.specs.Phases.{highest_in};
-ghost use Rattle.register.specs.Tables.{top_in};
+ghost use Rattle.history.specs.Promises.{HasHistory};
+ghost use Rattle.register.specs.Contents.{held_in, top_within};
 
-use crate::phase::Phase;
-use crate::tables::Tables;
+use crate::contents::Contents;
 use chart::kind::Chart;
 
 mod agreeing;
 mod asking;
 mod calls;
 
-/// A register of distances over a chart: an upper and a lower table over one top, and the draft that is open.
+/// A register of distances over a chart. A history of calls, from its making on, led to what it holds.
 #[derive(Drop)]
 pub struct Register<C: Chart> {
-    chart: C,
-    tables: Tables,
-    phase: Phase,
-    ghost within: { highest_in phase ≤ top_in tables },
+    contents: Contents<C>,
+    ghost reached: { HasHistory (C.Chart.meaning contents.chart) (top_within contents) (held_in contents) },
 }

@@ -1,3 +1,4 @@
 pub mod Answers
 pub mod Playing
 pub mod Lines
+pub mod Report

@@ -1,9 +1,12 @@
--- How the answer to a command, or why it gets none, is written.
+-- How the answer to a command, or why it gets none, is written; and how the report is.
 use Rattle.std.specs.Prelude.{ℕ, List, ◌++◌, Some, codes, decimal, Option}
 use Rattle.std.specs.Fmt.{option_append}
 use Rattle.history.specs.Lines.{line, verdict_text}
 use Rattle.script.specs.declared.answer.Answer.{Answer}
 use Rattle.script.specs.declared.answer.Answer.TheVariants.{Count, Entries, Claim}
+use Rattle.script.specs.declared.report.items.Row.{Row}
+use Rattle.script.specs.declared.report.items.Outcomes.{Outcomes}
+use Rattle.script.specs.declared.report.items.Tally.{Tally}
 use Rattle.script.specs.declared.rejection.Rejection.{Rejection}
 use Rattle.script.specs.declared.rejection.Rejection.TheVariants.{Refused, Fault}
 
@@ -16,3 +19,12 @@ answer_text (Claim c) = codes "= " ++ decimal c
 abbrev pub rejection_text : {F : Type 0} → (F → Option (List ℕ)) → Rejection F → Option (List ℕ)
 rejection_text fault (Refused r) = option_append (Some (codes "refused ")) (line fault r)
 rejection_text fault (Fault f) = option_append (Some (codes "fault ")) (fault f)
+
+abbrev pub row_text : Row → List ℕ
+row_text r = decimal r.s ++ (codes " " ++ (decimal r.t ++ (codes " " ++ (decimal r.lower ++ (codes " " ++ (decimal r.upper ++ (codes " " ++ verdict_text r.verdict)))))))
+
+abbrev pub outcomes_text : Outcomes → List ℕ
+outcomes_text n = codes "calls: " ++ (decimal n.accepted ++ (codes " accepted, " ++ (decimal n.refused ++ codes " refused")))
+
+abbrev pub tally_text : Tally → List ℕ
+tally_text n = codes "pairs: " ++ (decimal n.apart ++ (codes " apart, " ++ (decimal n.settled ++ (codes " settled, " ++ (decimal n.open ++ codes " open")))))

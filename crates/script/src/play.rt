@@ -1,5 +1,6 @@
 ghost use Rattle.std.specs.Prelude.{◌≡◌};
-ghost use Rattle.register.specs.Held.{held, top_of};
+ghost use Rattle.history.specs.Promises.{KeepsPromise};
+ghost use Rattle.register.specs.Held.{chart_of, held, top_of};
 ghost use Rattle.register.specs.Calls.{call_of};
 ghost use Rattle.script.specs.Playing.{ComesTo, Plays};
 
@@ -16,9 +17,10 @@ pub fn play<C: Chart>(
     command: Command,
     words: &[i32],
 ) -> Result<Answer, Rejection<C::Fault>>
-    ensures chart { register.new.chart ≡ register.old.chart }
+    ensures chart { chart_of register.new ≡ chart_of register.old }
     ensures top { top_of register.new ≡ top_of register.old }
-    ensures plays { Plays (C.Chart.meaning register.old.chart) (top_of register.old) (held register.old) command words.now result (held register.new) }
+    ensures promise { KeepsPromise (C.Chart.meaning (chart_of register.new)) (top_of register.new) (held register.new) }
+    ensures plays { Plays (C.Chart.meaning (chart_of register.old)) (top_of register.old) (held register.old) command words.now result (held register.new) }
 {
     // `as`: no `From` makes a usize of a u32.
     match command {
@@ -47,9 +49,10 @@ pub fn play<C: Chart>(
 
 /// Makes a call that answers with a count.
 fn make<C: Chart>(register: &mut Register<C>, call: Call<'_>) -> Result<Answer, Rejection<C::Fault>>
-    ensures chart { register.new.chart ≡ register.old.chart }
+    ensures chart { chart_of register.new ≡ chart_of register.old }
     ensures top { top_of register.new ≡ top_of register.old }
-    ensures comes { ComesTo (C.Chart.meaning register.old.chart) (top_of register.old) (held register.old) (call_of call.entry) result (held register.new) }
+    ensures promise { KeepsPromise (C.Chart.meaning (chart_of register.new)) (top_of register.new) (held register.new) }
+    ensures comes { ComesTo (C.Chart.meaning (chart_of register.old)) (top_of register.old) (held register.old) (call_of call.entry) result (held register.new) }
 {
     Ok(Answer::Count(register.call(call)?))
 }

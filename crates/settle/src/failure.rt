@@ -8,7 +8,7 @@ use thiserror::Error;
 #[derive(Debug, Drop, Error)]
 pub enum Failure {
     /// There are not just two arguments.
-    #[error("usage: settle CHART TOP < LINES")]
+    #[error("usage: settle CHART TOP < CALLS")]
     Usage,
     /// The file at this path cannot be read.
     #[error("settle: {0} cannot be read ({1})")]
@@ -22,7 +22,7 @@ pub enum Failure {
     /// The line of this number, counted from 1, is malformed.
     #[error("settle: line {0}: {1}")]
     Line(u64, Malformed),
-    /// Reading the lines or writing the answers fails.
+    /// Reading the lines or writing the answers fails, or there is no memory for it.
     #[error("settle: {0}")]
     Io(#[from] io::Error),
 }

@@ -1,4 +1,4 @@
-//! `settle CHART TOP < LINES`: weighs showings against a chart, as the lines of the input ask.
+//! `settle CHART TOP < CALLS`: plays a script of calls against a register of the chart, and reports every pair.
 
 #![tactic(auto)]
 
@@ -68,12 +68,14 @@ fn run(rt: &HostRuntime) -> Result<(), Failure> {
     let (path, top) = arguments(rt)?;
     let chart = read_chart(rt, path)?;
     let top = read_top(top.as_str())?;
-    let register = Register::new(chart, top);
+    let mut register = Register::new(chart, top);
     let input = BufReader::new(rt.alloc(), rt.stdin())?;
     let mut out = BufWriter::new(rt.alloc(), rt.stdout())?;
-    let result = settle_lines(rt.alloc(), &register, input, &mut out);
-    out.flush()?;
-    result
+    let settled = settle_lines(rt.alloc(), &mut register, input, &mut out);
+    // Before `settled?`, so that what was done before a malformed line is printed.
+    let flushed = out.flush();
+    settled?;
+    Ok(flushed?)
 }
 
 fn main(rt: HostRuntime) -> ExitCode {

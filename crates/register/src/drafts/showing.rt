@@ -60,7 +60,7 @@ impl<C: Chart> Draft<'_, '_, C> {
         let bound = self.weigh(s, t, words)?;
         let side = self.claims.side();
         if falls_short(side, bound, value) {
-            return Err(Refusal::Bound(bound));
+            return Err(Refusal::Bound(side, bound));
         }
         marks.mark(s, t);
         Ok(count_unshown(self.claims, marks))

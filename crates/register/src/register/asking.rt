@@ -2,10 +2,11 @@ ghost use Rattle.std.specs.Prelude.{◌≡◌};
 ghost use Rattle.chart.specs.Starting.{start_table};
 ghost use Rattle.history.specs.Calls.{Ask as Asks};
 ghost use Rattle.history.specs.Rules.{Step, fresh, over, side_of, verdict_of};
-ghost use Rattle.history.specs.Promises.{Keeps, SettledAgree};
+ghost use Rattle.history.specs.Promises.{KeepsPromise, SettledAgree};
 ghost use Rattle.register.specs.Calls.{asked};
-ghost use Rattle.register.specs.Held.{held, top_of};
+ghost use Rattle.register.specs.Held.{chart_of, held, top_of};
 
+use crate::contents::Contents;
 use crate::phase::Phase;
 use crate::register::Register;
 use crate::tables::Tables;
@@ -18,46 +19,53 @@ use history::verdict::Verdict;
 impl<C: Chart> Register<C> {
     /// A fresh register of a chart and a top.
     pub fn new(chart: C, top: Top) -> Register<C>
-        ensures chart { result.chart ≡ chart }
+        ensures chart { chart_of result ≡ chart }
         ensures top { top_of result ≡ top.value }
         ensures fresh { held result ≡ fresh (C.Chart.meaning chart) top.value }
+        ensures promise { KeepsPromise (C.Chart.meaning (chart_of result)) (top_of result) (held result) }
         ensures starts { (side : Side) → over (top_of result) (side_of side (held result)) ≡ start_table (C.Chart.meaning chart) side top.value }
     {
+        let tables = Tables::starting(&chart, top);
+        let phase = Phase::Resting;
         Register {
-            tables: Tables::starting(&chart, top),
-            chart,
-            phase: Phase::Resting,
+            contents: Contents {
+                chart,
+                tables,
+                phase,
+            },
         }
     }
 
     /// How many sections the chart has.
     pub fn sections(&self) -> usize
-        ensures { result ≡ (C.Chart.meaning self.now.chart).sections }
+        ensures { result ≡ (C.Chart.meaning (chart_of self.now)).sections }
     {
-        self.chart.sections()
+        self.contents.chart.sections()
     }
 
     /// Weighs a showing in the table of a side, with no claims laid over it.
     pub fn weigh(&self, side: Side, s: usize, t: usize, words: &[i32]) -> Result<u32, C::Fault>
-        ensures { result ≡ (C.Chart.meaning self.now.chart).weigh side (over (top_of self.now) (side_of side (held self.now))) s t words.now }
+        ensures { result ≡ (C.Chart.meaning (chart_of self.now)).weigh side (over (top_of self.now) (side_of side (held self.now))) s t words.now }
     {
-        self.chart.weigh(side, self.tables.of(side), s, t, words)
+        self.contents
+            .chart
+            .weigh(side, self.contents.tables.of(side), s, t, words)
     }
 
     /// The lower entry of a pair, the upper entry, and what they say.
     ///
-    /// After every history of calls the entries bound the distance from both sides, and a full certificate can still be entered; where a pair is settled, every register of the same chart that settles it agrees.
+    /// A history of calls led to what the register holds, and whatever history did: the entries bound the distances from both sides, and at rest a full certificate can be entered. Where a pair is settled, every register of the same chart that settles it agrees.
     #[tactic(auto, using(crate::proofs::Steps::ask_outside, crate::proofs::Steps::ask_answers, crate::proofs::Steps::inside_both, crate::proofs::Steps::outside_one))]
     pub fn ask(&self, s: usize, t: usize) -> Result<(u32, u32, Verdict), Refusal<C::Fault>>
-        ensures rule { Step (C.Chart.meaning self.now.chart) (top_of self.now) (held self.now) (Asks s t) (asked result) (held self.now) }
-        ensures keeps { Keeps (C.Chart.meaning self.now.chart) (top_of self.now) (held self.now) }
-        ensures agrees { (other : C) → SettledAgree (C.Chart.meaning self.now.chart) (C.Chart.meaning other) }
+        ensures rule { Step (C.Chart.meaning (chart_of self.now)) (top_of self.now) (held self.now) (Asks s t) (asked result) (held self.now) }
+        ensures promise { KeepsPromise (C.Chart.meaning (chart_of self.now)) (top_of self.now) (held self.now) }
+        ensures agrees { (other : C) → SettledAgree (C.Chart.meaning (chart_of self.now)) (C.Chart.meaning other) }
     {
-        if !self.chart.has_both(s, t) {
+        if !self.contents.chart.has_both(s, t) {
             return Err(Refusal::AskOutside);
         }
-        let (lower, upper) = self.tables.entries(s, t);
-        let verdict = verdict(self.chart.apart(s, t), lower == upper);
+        let (lower, upper) = self.contents.tables.entries(s, t);
+        let verdict = verdict(self.contents.chart.apart(s, t), lower == upper);
         Ok((lower, upper, verdict))
     }
 }

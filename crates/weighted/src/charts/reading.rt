@@ -1,4 +1,5 @@
 ghost use Rattle.std.specs.Prelude.{◌≡◌, MatchResult};
+ghost use Rattle.chain.specs.Registers.{RegistersBound, SettledIsDistance, EntriesBoundDistance};
 ghost use Rattle.weighted.specs.View.{chain};
 ghost use Rattle.weighted.specs.Reading.{chain_in, read_answer, fresh_chain};
 
@@ -28,6 +29,9 @@ impl Weighted {
     pub fn read(&mut self, bytes: &[u8]) -> Result<usize, ReadRefusal>
         ensures answer { result ≡ read_answer bytes.now }
         ensures chart { MatchResult result (λ _. chain self.new ≡ chain_in bytes.now) (λ _. self.new ≡ self.old) }
+        ensures bounds { RegistersBound (chain self.new) }
+        ensures settled { SettledIsDistance (chain self.new) }
+        ensures between { EntriesBoundDistance (chain self.new) }
     {
         let file = ChartFile::new(bytes)?;
         let header = file.header;

@@ -1,4 +1,4 @@
-use Rattle.std.proofs.Common.{◌≡◌, ℕ, not, eqb, List, Ok, sym, refl, ap, arith}
+use Rattle.std.proofs.Common.{◌≡◌, ℕ, not, eqb, List, Ok, sym, refl, ap, arith, rules}
 use mathlib.Core.Path.{fun_ext}
 use Rattle.std.proofs.lemmas.Bool.Decides.{nat_tests}
 use Rattle.finite.specs.Sums.{sum}
@@ -8,6 +8,7 @@ use Rattle.files.specs.declared.header.Header.{Header}
 use Rattle.files.specs.declared.kind.Kind.TheVariants.{Weighted as weighted_kind}
 use Rattle.files.specs.Format.{sections_field, whole_field}
 use Rattle.files.specs.Reading.{Fits}
+use Rattle.chain.proofs.Registers.{registers_bound, settled_is_distance, entries_bound_distance}
 use Rattle.weighted.specs.Rows.{entry_at}
 use Rattle.weighted.specs.Reading.{part_in}
 use Rattle.weighted.proofs.charts.Weighted.read.Goals as goal
@@ -47,3 +48,30 @@ returns-clause-chart c =
       band = λ s. c.bands.ensures s i;
       part = λ s u. c.rows-rows.ensures s u i;
     })
+
+pub returns-in_err-file-clause-bounds : goal.returns-in_err-file-clause-bounds
+returns-in_err-file-clause-bounds c = registers_bound _ (search rules)
+
+pub returns-in_err-file-clause-settled : goal.returns-in_err-file-clause-settled
+returns-in_err-file-clause-settled c = settled_is_distance _ (search rules)
+
+pub returns-in_err-file-clause-between : goal.returns-in_err-file-clause-between
+returns-in_err-file-clause-between c = entries_bound_distance _ (search rules)
+
+pub returns-in-Some-clause-bounds : goal.returns-in-Some-clause-bounds
+returns-in-Some-clause-bounds c = registers_bound _ (search rules)
+
+pub returns-in-Some-clause-settled : goal.returns-in-Some-clause-settled
+returns-in-Some-clause-settled c = settled_is_distance _ (search rules)
+
+pub returns-in-Some-clause-between : goal.returns-in-Some-clause-between
+returns-in-Some-clause-between c = entries_bound_distance _ (search rules)
+
+pub returns-clause-bounds : goal.returns-clause-bounds
+returns-clause-bounds c = registers_bound _ (search rules)
+
+pub returns-clause-settled : goal.returns-clause-settled
+returns-clause-settled c = settled_is_distance _ (search rules)
+
+pub returns-clause-between : goal.returns-clause-between
+returns-clause-between c = entries_bound_distance _ (search rules)

@@ -1,5 +1,5 @@
-use Rattle.chain.proofs.Laws.{nowhere_raised}
 use Rattle.chain.proofs.Couplings.{couplings_bound}
+use Rattle.chain.proofs.Laws.{nowhere_raised}
 use Rattle.weighted.specs.View.{chain}
 use Rattle.weighted.specs.Soundness.{sound}
 use Rattle.weighted.proofs.charts.kind.WeightedChart.weigh.Goals as goal

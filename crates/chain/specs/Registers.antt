@@ -1,0 +1,33 @@
+-- What every register over a weighted chart promises of the discounted bisimilarity distance, with no real numbers.
+use Rattle.std.specs.Prelude.{◌≡◌, ℕ, ◌*◌, ◌<◌, ◌≤◌}
+use Rattle.chart.specs.Distances.{Distances}
+use Rattle.history.specs.Rules.{State, over}
+use Rattle.history.specs.Promises.{Always, Below}
+use Rattle.chain.specs.Chain.{Chain, Judges}
+use Rattle.chain.specs.Coupling.{NowhereRaised}
+use Rattle.chain.specs.Meaning.{means}
+
+-- In the state σ of a register over the top K: the discounted Kantorovich operator nowhere raises the upper table,
+-- and no lower entry stands for a greater distance than the entry of a table, over any top from 1, that the operator nowhere raises.
+pub record Bounds (c : Chain) (K : ℕ) (σ : State) : Type 0 where
+  pub upper : NowhereRaised c (over K σ.upper)
+  pub lower : (e : Distances) → 1 ≤ e.top → NowhereRaised c e → Below c.n (over K σ.lower) e
+
+-- in every register over the chart, over every top and after every history
+abbrev pub RegistersBound : Chain → Type 0
+RegistersBound c = Always (means c) (λ K σ h. Bounds c K σ)
+
+-- x / K is the discounted bisimilarity distance of s and t: the least value at (s, t) of the tables that the operator nowhere raises
+pub record Distance (c : Chain) (s t x K : ℕ) : Type 0 where
+  pub top_least : 1 ≤ K
+  pub attained : (e : Distances) × (1 ≤ e.top) × NowhereRaised c e × (e.entry s t * K ≡ x * e.top)
+  pub least : (e : Distances) → 1 ≤ e.top → NowhereRaised c e → x * e.top ≤ e.entry s t * K
+
+-- at a judged pair whose two entries are equal, they are the distance
+abbrev pub SettledIsDistance : Chain → Type 0
+SettledIsDistance c = Always (means c) (λ K σ h. (s t : ℕ) → Judges c s t → σ.lower s t ≡ σ.upper s t → Distance c s t (σ.upper s t) K)
+
+-- at every pair of sections no lower entry is above the distance, and no upper one below it
+abbrev pub EntriesBoundDistance : Chain → Type 0
+EntriesBoundDistance c = Always (means c) (λ K σ h.
+    (s t x J : ℕ) → s < c.n → t < c.n → Distance c s t x J → (σ.lower s t * J ≤ x * K) × (x * K ≤ σ.upper s t * J))
