@@ -16,20 +16,30 @@ ROOT = pathlib.Path(__file__).resolve().parent.parent
 
 # ---- charts
 
-def chart(n, a, b, whole, bands, rows, kind=1, bands_at=16, routes_at=None, length=None, size=None):
-    """The bytes of a chart file."""
+def file(kind, n, a, b, whole, bands, routes, bands_at=16, routes_at=None, length=None, size=None):
+    """The bytes of a chart file with these bands and these bytes of routes."""
     routes_at = 16 + n if routes_at is None else routes_at
-    end = max(bands_at + n, routes_at + 2 * n * n, 16)
+    end = max(bands_at + n, routes_at + len(routes), 16)
     size = end if size is None else size
     body = bytearray(max(end, size))
     body[bands_at : bands_at + n] = bytes(bands)
-    for s, row in enumerate(rows):
-        for u, part in enumerate(row):
-            struct.pack_into(">H", body, routes_at + 2 * (s * n + u), part)
+    body[routes_at : routes_at + len(routes)] = routes
     struct.pack_into(">8H", body, 0, kind, n, a, b, whole, bands_at, routes_at, size if length is None else length)
     return bytes(body[:size])
 
 
+def chart(n, a, b, whole, bands, rows, kind=1, **other):
+    """A weighted chart."""
+    return file(kind, n, a, b, whole, bands, b"".join(struct.pack(f">{n}H", *row) for row in rows), **other)
+
+
+def choice(n, a, b, bands, masks, whole=0, kind=2, **other):
+    """A choice chart."""
+    return file(kind, n, a, b, whole, bands, struct.pack(f">{n}I", *masks), **other)
+
+
+THREE = choice(3, 1, 2, [0, 1, 0], [3, 2, 4])
+ALL_32 = choice(32, 999, 1000, [7] * 32, [0xFFFFFFFF] * 32)
 FOUR = (4, 1, 2, 4, [0, 1, 0, 0], [[3, 1, 0, 0], [0, 4, 0, 0], [0, 2, 2, 0], [0, 0, 0, 4]])
 WORKED = chart(*FOUR)
 
@@ -182,6 +192,62 @@ LEAST = [
 ]
 
 # on `split` over the greatest top, each refusal, and nothing entered
+# The choice chart of the examples: from section 0 one chooses 0 or 1, from 1 goes on to 1, and from 2 to 2.
+CHOICES = [
+    (weigh("upper", 0, 1, [0, 1, 1, 1]), FAULT_100),
+    (weigh("upper", 3, 0, []), FAULT_100),
+    (weigh("upper", 0, 2, [0]), "fault 121 1 (a pairing cannot have 1 words: it has pairs, at most 1,024)"),
+    (weigh("upper", 0, 2, [0, 2] * 1025), "fault 121 2050 (a pairing cannot have 2050 words: it has pairs, at most 1,024)"),
+    (weigh("upper", 0, 2, [0, 2] * 1023 + [1, 2]), "= 4"),
+    (weigh("upper", 0, 2, [0, 2, 2, 2]), "fault 122 2 (word 2 names no successor)"),
+    (weigh("upper", 0, 2, [0, 1, 3, 2]), "fault 122 1 (word 1 names no successor)"),
+    (weigh("upper", 0, 2, [-1, 2]), "fault 122 0 (word 0 names no successor)"),
+    (weigh("upper", 0, 2, []), "fault 123 0 (successor 0 of the first section is in no pair)"),
+    (weigh("upper", 0, 2, [0, 2]), "fault 123 1 (successor 1 of the first section is in no pair)"),
+    (weigh("upper", 2, 0, [2, 0]), "fault 124 1 (successor 1 of the second section is in no pair)"),
+    (weigh("upper", 0, 2, [0, 2, 1, 2]), "= 4"),
+    (weigh("lower", 0, 1, [0, 1, 8]), FAULT_100),
+    (weigh("lower", 0, 2, [0, 1]), "fault 131 2 (potentials cannot have 2 words: they have three)"),
+    (weigh("lower", 0, 2, [2, 2, 9]), "fault 132 0 (the side is not 0 or 1)"),
+    (weigh("lower", 0, 2, [-1, 0, 0]), "fault 132 0 (the side is not 0 or 1)"),
+    (weigh("lower", 0, 2, [0, 2, 9]), "fault 133 1 (the section is no successor on its side)"),
+    (weigh("lower", 0, 2, [1, 1, 0]), "fault 133 1 (the section is no successor on its side)"),
+    (weigh("lower", 0, 2, [0, -1, 0]), "fault 133 1 (the section is no successor on its side)"),
+    (weigh("lower", 0, 2, [0, 1, 9]), "fault 134 2 (the floor is not from 0 to the top)"),
+    (weigh("lower", 0, 2, [0, 1, -1]), "fault 134 2 (the floor is not from 0 to the top)"),
+    (weigh("lower", 0, 2, [0, 0, 1]), "fault 135 2 (the entry with successor 2 of the other section is below the floor)"),
+    (weigh("lower", 0, 2, [1, 2, 1]), "fault 135 0 (the entry with successor 0 of the other section is below the floor)"),
+    (weigh("lower", 2, 0, [1, 1, 8]), "= 4"),
+    (weigh("lower", 0, 2, [0, 1, 8]), "= 4"),
+    (weigh("lower", 0, 2, [0, 1, 7]), "= 3"),
+    (weigh("lower", 0, 2, [0, 0, 0]), "= 0"),
+    ("open upper", "= 0"),
+    ("claim 0 2 3", "= 1"),
+    ("close", "= 1"),
+    ("show 0 2 0 2 1 2", "refused 55 4 (the pairing shows no claim below 4)"),
+    ("show 0 2 0 2", "refused 54 123 1 (successor 1 of the first section is in no pair)"),
+    ("abandon", "= 1"),
+]
+
+# a full certificate for that chart over 8: 0 and 2 are 4 apart
+CHOSEN = (
+    draft("upper", {(0, 0): (0, [0, 0, 1, 1]), (0, 2): (4, [0, 2, 1, 2]), (1, 1): (0, [1, 1]), (2, 0): (4, [2, 0, 2, 1]), (2, 2): (0, [2, 2])})
+    + draft("lower", {(0, 2): (4, [0, 1, 8]), (2, 0): (4, [1, 1, 8])})
+    + [("ask 0 2", "= 4 4 settled")]
+)
+
+EACH = [word for pair in itertools.product(range(32), repeat=2) for word in pair]
+WIDEST_CHOICES = [
+    (weigh("upper", 0, 31, EACH), "= 999000000"),
+    (weigh("upper", 31, 0, [word for u in range(32) for word in (u, 31 - u)]), "= 999000000"),
+    (weigh("upper", 31, 31, EACH[:64]), "fault 123 1 (successor 1 of the first section is in no pair)"),
+    (weigh("upper", 0, 31, EACH + [31, 32]), "fault 121 2050 (a pairing cannot have 2050 words: it has pairs, at most 1,024)"),
+    (weigh("upper", 0, 31, EACH[:-1] + [32]), "fault 122 2047 (word 2047 names no successor)"),
+    (weigh("lower", 0, 31, [1, 31, 0]), "= 0"),
+    (weigh("lower", 0, 31, [1, 31, 1]), "fault 135 0 (the entry with successor 0 of the other section is below the floor)"),
+    (weigh("lower", 0, 31, [0, 31, TOP + 1]), "fault 134 2 (the floor is not from 0 to the top)"),
+]
+
 REFUSALS = [
     ("ask 31 32", f"refused 80 {OUTSIDE}"),
     ("ask 4294967295 0", f"refused 80 {OUTSIDE}"),
@@ -231,6 +297,12 @@ PLAYED = [
      {pair: (d, d) for pair, d in split_distances().items()}),
     ("every pair of 32 sections", wide(), TOP, draft("upper", {(s, t): (0, WHOLE) for s in range(32) for t in range(32)}),
      {(s, t): (0, 0) for s in range(32) for t in range(32)}),
+    ("choices", THREE, 8, CHOICES, {}),
+    ("all choices settled", THREE, 8, CHOSEN, {(s, t): (4, 4) if s != t else (0, 0) for s, t in [(0, 0), (0, 2), (1, 1), (2, 0), (2, 2)]}),
+    ("the widest choices", ALL_32, TOP, WIDEST_CHOICES, {}),
+    ("every choice of 32 sections", ALL_32, TOP, draft("upper", {(s, t): (0, EACH) for s in range(32) for t in range(32)}),
+     {(s, t): (0, 0) for s in range(32) for t in range(32)}),
+    ("masks first, and bytes between", choice(3, 1, 2, [0, 1, 0], [3, 2, 4], routes_at=17, bands_at=60, size=70), 8, [(weigh("upper", 0, 2, [0, 2, 1, 2]), "= 4")], {}),
     ("a draft that is not entered", WORKED, 30, draft("upper", {(0, 3): (6, [0, 3, 3, 1, 3, 1])})[:-1], {}),
 ]
 
@@ -272,6 +344,7 @@ DISCOUNT = "the discount a / b does not have 1 <= a < b <= 1000"
 PARTS = "the kind of chart does not allow this whole"
 BANDS = "the bands do not lie in the file"
 ROUTES = "the routes do not lie in the file, or share a byte with the bands"
+MASK = "a mask is 0, or marks a section that the chart has not"
 
 # name, the chart's bytes, the top, and what is said of them
 REFUSED = [
@@ -296,6 +369,13 @@ REFUSED = [
     ("a shared byte", worked(routes_at=19), 30, f"a.chart refused 6 12 ({ROUTES})"),
     ("a row that does not add up", worked(rows=[[3, 1, 0, 0], [0, 4, 0, 0], [0, 2, 1, 0], [0, 0, 0, 5]]), 30,
      "a.chart refused 7 2 (a row does not add up to the whole)"),
+    ("choices with parts", choice(3, 1, 2, [0, 1, 0], [3, 2, 4], whole=1), 8, f"a.chart refused 5 8 ({PARTS})"),
+    ("masks past the end", choice(3, 1, 2, [0, 1, 0], [3, 2, 4], size=30), 8, f"a.chart refused 6 12 ({ROUTES})"),
+    ("a mask of 0", choice(3, 1, 2, [0, 1, 0], [3, 0, 8]), 8, f"a.chart refused 7 1 ({MASK})"),
+    ("a mask with bit 3 of 3 sections", choice(3, 1, 2, [0, 1, 0], [3, 2, 8]), 8, f"a.chart refused 7 2 ({MASK})"),
+    ("a mask low byte first", choice(3, 1, 2, [0, 1, 0], [0x03000000, 2, 4]), 8, f"a.chart refused 7 0 ({MASK})"),
+    ("a mask with bit 31 of 31 sections", choice(31, 1, 2, [0] * 31, [1] * 30 + [1 << 31]), 8, f"a.chart refused 7 30 ({MASK})"),
+    ("15 bytes of a choice chart", THREE[:15], 8, "a.chart refused 1 15 (the file has fewer than 16 bytes)"),
 ]
 
 # what the program writes of examples/worked.calls, before the report
@@ -305,6 +385,14 @@ EXAMPLE = [
     "show 0 3 refused 54 113 3 (the potentials of the successors at place 3 add up to more than their entry)",
     "show 0 3 = 0", "enter = 1",
     "ask 0 3 = 6 6 settled",
+]
+
+# and of examples/choice.calls
+CHOICE_EXAMPLE = [
+    "open upper = 0", "claim 0 2 3 = 1", "close = 1", "show 0 2 refused 55 4 (the pairing shows no claim below 4)", "abandon = 1",
+    "open upper = 0", "claim 0 2 4 = 1", "close = 1", "show 0 2 = 0", "enter = 1",
+    "open lower = 0", "claim 0 2 4 = 1", "close = 1", "show 0 2 = 0", "enter = 1",
+    "ask 0 2 = 4 4 settled",
 ]
 
 
@@ -324,6 +412,8 @@ def cases():
     for name, answers, accepted, refused, entries in [("worked.calls", EXAMPLE, 11, 1, {(0, 3): (6, 6)}), ("worked.lines", weighings(), 0, 0, {})]:
         text = (ROOT / "examples" / name).read_text()
         yield name, (ROOT / "examples/worked.chart").read_bytes(), here, text, answers + report(WORKED, 30, accepted, refused, entries), "", 0
+    said = CHOICE_EXAMPLE + report(THREE, 8, 15, 1, {(0, 2): (4, 4)})
+    yield "choice.calls", (ROOT / "examples/choice.chart").read_bytes(), ["a.chart", "8"], (ROOT / "examples/choice.calls").read_text(), said, "", 0
 
 
 def weighings():

@@ -5,12 +5,14 @@ use Rattle.std.proofs.lemmas.Bool.{true_from_ne_false, cases_lt, eq-eqb, not_fro
 use Rattle.std.specs.List.{AllByRecursion}
 use Rattle.finite.specs.Sums.{sum}
 use Rattle.finite.proofs.Sums.{sum_le, sum_mul}
+use Rattle.finite.proofs.Lists.{each_at}
 use Rattle.chart.specs.declared.side.Side.{Side}
 use Rattle.chart.specs.declared.side.Side.TheVariants.{Upper, Lower}
 use Rattle.chart.specs.Distances.{Distances}
 use Rattle.chart.specs.Weighing.{Weaker, Weighs}
 use Rattle.chart.specs.Meaning.{Judged, Shown, Word}
 use Rattle.chart.specs.Laws.{Tighter, Lawful}
+use Rattle.chart.proofs.Claims.{least_shown}
 use Rattle.chain.specs.declared.fault.Fault.{Fault}
 use Rattle.chain.specs.declared.fault.Fault.TheVariants.{Unjudged}
 use Rattle.chain.specs.Chain.{Chain, Sound, Judges, unjudged}
@@ -20,8 +22,8 @@ use Rattle.chain.specs.Meaning.{Valid, Shows, answer, weighed, means}
 use Rattle.chain.specs.Coupling.{Coupling, total, MeanAtMost, SupportedIsNowhereRaised}
 use Rattle.chain.proofs.Valid.{judges_from, pairing_from, pairing_to, potentials_from, potentials_to}
 use Rattle.chain.specs.Words.{word}
-use Rattle.chain.proofs.Words.{between_word, each_word}
-use Rattle.chain.proofs.Claims.{least_shown, greatest_shown}
+use Rattle.chain.proofs.Words.{between_word}
+use Rattle.chain.proofs.Claims.{signed_greatest_shown}
 use Rattle.chain.proofs.Couplings.{left_in, right_in, spelled, spelled_total, mean_shown, product, mass, potentials_bounded}
 use Rattle.chain.proofs.Diagonal.{itself}
 
@@ -37,7 +39,7 @@ module _ (c : Chain) (sound : Sound c) where
   weighs Lower d s t ws = by (potentials_fault c d s t ws) refl where
     by : (o : Option Fault) → potentials_fault c d s t ws ≡ o → Weighs Lower (Potentials c d s t ws) (PotentialsShow c s t ws) (answer o (greatest_claim c (gain c s t ws)))
     by (Some f) e = λ v. cc (sym (potentials_to c d s t ws v) ∙ e)
-    by None e = (potentials_from c d s t ws e, greatest_shown c.a (c.b * c.whole) scale_some (gain c s t ws))
+    by None e = (potentials_from c d s t ws e, signed_greatest_shown c.a (c.b * c.whole) scale_some (gain c s t ws))
 
   judged_of : (s t : ℕ) → Judges c s t → Judged (means c) s t
   judged_of s t j = record { first_in = j.first_in; second_in = j.second_in; together = not_from_true _ (eq-eqb _ _ j.alike) }
@@ -52,7 +54,7 @@ module _ (c : Chain) (sound : Sound c) where
 
   -- by the place in its triple
   pairing_words : (d : Distances) (s t : ℕ) (ws : List ℤ) → Valid c Upper d s t ws → AllByRecursion Word ws
-  pairing_words d s t ws v = each_word Word ws (λ i l. by i l (i % 3) refl) where
+  pairing_words d s t ws v = each_at Word ws (pos 0) (λ i l. by i l (i % 3) refl) where
     by : (i : ℕ) → i < length ws → (k : ℕ) → i % 3 ≡ k → Word (word ws i)
     by i l zero e =
         let at : 3 * (i / 3) ≡ i = omega arith in

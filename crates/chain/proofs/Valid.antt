@@ -8,12 +8,12 @@ use Rattle.std.proofs.lemmas.Bool.Decides.{nat_tests}
 use Rattle.finite.specs.Search.{given, least}
 use Rattle.finite.proofs.Search.{first_of_none, given_none, mapped_none, least_none_at, least_none}
 use Rattle.chart.specs.Distances.{Distances}
+use Rattle.chart.proofs.Words.{between_outside, outside_between}
 use Rattle.chain.specs.declared.fault.Fault.TheVariants.{Unjudged, PairingCount, FirstMargin, SecondMargin, PotentialsCount, Range, Above}
 use Rattle.chain.specs.Chain.{Chain, Judges, unjudged}
 use Rattle.chain.specs.Words.{word, outside}
 use Rattle.chain.specs.Pairing.{left, right, margin, Pairing, bad_word, word_fault, pairing_fault}
 use Rattle.chain.specs.Potentials.{alpha, beta, above, Potentials, potentials_fault}
-use Rattle.chain.proofs.Words.{between_outside, outside_between}
 
 pub judges_from : (c : Chain) (s t : ℕ) → unjudged c s t ≡ false → Judges c s t
 judges_from c s t e = record { first_in = grind (arith, nat_tests); second_in = grind (arith, nat_tests); alike = grind (arith, nat_tests) }

@@ -2,3 +2,5 @@ pub mod Bounds
 pub mod Cells
 pub mod Starts
 pub mod Telling
+pub mod Words
+pub mod Claims

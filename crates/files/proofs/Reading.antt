@@ -1,18 +1,19 @@
 -- What is known of a header that is read.
-use Rattle.std.proofs.Common.{◌≡◌, ℕ, Bool, true, not, eqb, ltb, List, ◌∷◌, length, None, Option, refl, sym, ap, ◌∙◌, subst, arith}
+use Rattle.std.proofs.Common.{◌≡◌, ℕ, ◌≤◌, Bool, true, false, not, IsSomeAnd, IfNone, eqb, ltb, List, [], ◌∷◌, length, Some, None, Option, refl, sym, ap, ◌∙◌, subst, arith}
 use Rattle.std.proofs.lemmas.Bool.{not-false}
 use Rattle.std.proofs.lemmas.Bool.Decides.{nat_tests}
 use Rattle.finite.specs.Search.{given, first_of}
 use Rattle.finite.proofs.Search.{first_of_none, given_none}
 use Rattle.files.specs.declared.header.Header.{Header}
 use Rattle.files.specs.declared.kind.Kind.{Kind}
+use Rattle.files.specs.declared.kind.Kind.TheVariants.{Weighted, Choice}
 use Rattle.files.specs.declared.refusal.ReadRefusal.{ReadRefusal}
 use Rattle.files.specs.declared.refusal.ReadRefusal.TheVariants.{Short, Length, OtherKind, Sections, Discount, Whole, Bands, Routes}
 use Rattle.files.specs.Format.{kind_field, length_field}
-use Rattle.files.specs.Kinds.{code, whole_allowed}
+use Rattle.files.specs.Kinds.{code, kind_named, whole_allowed}
 use Rattle.files.specs.Headers.{header_of, sections_allowed, discount_allowed, bands_span, routes_span}
 use Rattle.files.specs.Spans.{in_file}
-use Rattle.files.specs.Refusals.{refusal_of, header_refusal}
+use Rattle.files.specs.Refusals.{number, refusal_of, header_refusal}
 use Rattle.files.specs.Reading.{Fits}
 
 -- where no check fails, the first does not, and none of the others
@@ -53,3 +54,28 @@ fits_fields kind bs none =
 
 pub fits_unrefused : (kind : Kind) (bs : List ℕ) (h : Header) → h ≡ header_of bs → refusal_of kind bs h ≡ None → Fits kind bs h
 fits_unrefused kind bs h same none = subst (Fits kind bs) (sym same) (fits_fields kind bs (ap (refusal_of kind bs) (sym same) ∙ none))
+
+-- a file that names no kind fails one of the first three checks
+early : (short sized other : Bool) (n : ℕ) (os : List (Option ReadRefusal)) → other ≡ true
+    → IsSomeAnd (first_of (given short (Short n) ∷ given sized Length ∷ given other OtherKind ∷ os)) (λ e. number e ≤ 2)
+early true sized other n os is_other = omega arith
+early false true other n os is_other = omega arith
+early false false true n os is_other = omega arith
+early false false false n os is_other = absurd (cc is_other)
+
+unnamed_refused : (kind : Kind) (bs : List ℕ) → kind_named bs ≡ None → IsSomeAnd (header_refusal kind bs) (λ e. number e ≤ 2)
+unfolding refusal_of
+unnamed_refused kind bs none = early _ _ _ _ _ (other kind) where
+  not_first : (given (eqb (kind_field bs) (code Weighted)) Weighted ≡ None) × (first_of (given (eqb (kind_field bs) (code Choice)) Choice ∷ []) ≡ None)
+  not_first = first_of_none (given (eqb (kind_field bs) (code Weighted)) Weighted) _ none
+
+  not_second : given (eqb (kind_field bs) (code Choice)) Choice ≡ None
+  not_second = (first_of_none (given (eqb (kind_field bs) (code Choice)) Choice) [] not_first.1).0
+
+  other : (kind : Kind) → not (eqb (kind_field bs) (code kind)) ≡ true
+  other Weighted = ap not (given_none (eqb (kind_field bs) (code Weighted)) Weighted not_first.0)
+  other Choice = ap not (given_none (eqb (kind_field bs) (code Choice)) Choice not_second)
+
+pub unless_named : (bs : List ℕ) (o : Option Kind) → o ≡ kind_named bs → IfNone o ((kind : Kind) → IsSomeAnd (header_refusal kind bs) (λ e. number e ≤ 2))
+unless_named bs (Some kind) named = tt
+unless_named bs None named = λ kind. unnamed_refused kind bs (sym named)

@@ -9,6 +9,10 @@ byte bs i = slice_index bs i
 abbrev pub field : List ℕ → ℕ → ℕ
 field bs i = 256 * byte bs i + byte bs (i + 1)
 
+-- the 32 bits from a place on, high byte first
+abbrev pub long_field : List ℕ → ℕ → ℕ
+long_field bs i = 65536 * field bs i + field bs (i + 2)
+
 abbrev pub kind_field : List ℕ → ℕ
 kind_field bs = field bs 0
 
@@ -22,7 +26,7 @@ numerator_field bs = field bs 4
 abbrev pub denominator_field : List ℕ → ℕ
 denominator_field bs = field bs 6
 
--- what each row adds up to
+-- what each row of a weighted chart adds up to
 abbrev pub whole_field : List ℕ → ℕ
 whole_field bs = field bs 8
 

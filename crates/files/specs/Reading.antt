@@ -8,10 +8,10 @@ use Rattle.files.specs.Kinds.{whole_allowed, route_bytes}
 use Rattle.files.specs.Headers.{header_of}
 use Rattle.files.specs.Refusals.{header_refusal}
 
--- the refusal, if there is one, and else the header
-abbrev pub unless_refused : Option ReadRefusal → Header → Result Header ReadRefusal
-unless_refused (Some e) h = Err e
-unless_refused None h = Ok h
+-- the refusal, if there is one, and else what is read
+abbrev pub unless_refused : {X : Type 0} → Option ReadRefusal → X → Result X ReadRefusal
+unless_refused (Some e) x = Err e
+unless_refused None x = Ok x
 
 -- what a file's header is read as
 abbrev pub header_read : Kind → List ℕ → Result Header ReadRefusal

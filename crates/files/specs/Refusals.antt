@@ -4,7 +4,7 @@ use Rattle.finite.specs.Search.{given, first_of}
 use Rattle.files.specs.declared.header.Header.{Header}
 use Rattle.files.specs.declared.kind.Kind.{Kind}
 use Rattle.files.specs.declared.refusal.ReadRefusal.{ReadRefusal}
-use Rattle.files.specs.declared.refusal.ReadRefusal.TheVariants.{Short, Length, OtherKind, Sections, Discount, Whole, Bands, Routes, Row}
+use Rattle.files.specs.declared.refusal.ReadRefusal.TheVariants.{Short, Length, OtherKind, Sections, Discount, Whole, Bands, Routes, Row, Mask}
 use Rattle.files.specs.Format.{kind_field, length_field}
 use Rattle.files.specs.Kinds.{code, whole_allowed}
 use Rattle.files.specs.Headers.{header_of, sections_allowed, discount_allowed, bands_span, routes_span}
@@ -20,9 +20,10 @@ number Discount = 4
 number Whole = 5
 number Bands = 6
 number Routes = 6
-number (Row row) = 7
+number (Row section) = 7
+number (Mask section) = 7
 
--- the place of what is wrong: the file's size, a field of the header, or a row
+-- the place of what is wrong: the file's size, a field of the header, or a section
 abbrev pub place : ReadRefusal → ℕ
 place (Short size) = size
 place Length = 14
@@ -32,7 +33,8 @@ place Discount = 4
 place Whole = 8
 place Bands = 10
 place Routes = 12
-place (Row row) = row
+place (Row section) = section
+place (Mask section) = section
 
 -- the first check that a file with this header fails
 unfoldable pub refusal_of : Kind → List ℕ → Header → Option ReadRefusal

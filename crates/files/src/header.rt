@@ -1,9 +1,9 @@
 ghost use Rattle.std.specs.Prelude.{◌≡◌, ◌≤◌, Some, None, IfOk, MatchResult};
-ghost use Rattle.files.specs.Headers.{header_of, sections_allowed, discount_allowed, bands_span, routes_span};
+ghost use Rattle.files.specs.Headers.{header_of, sections_allowed, discount_allowed, bands_span, routes_span, band_by};
 ghost use Rattle.files.specs.Refusals.{refusal_of};
 ghost use Rattle.files.specs.Reading.{header_read, Fits};
 
-use crate::bytes::field;
+use crate::bytes::{byte, field};
 use crate::kind::Kind;
 use crate::layout::{
     BANDS_AT, DENOMINATOR_AT, HEADER_BYTES, KIND_AT, LENGTH_AT, NUMERATOR_AT, ROUTES_AT,
@@ -20,7 +20,7 @@ pub struct Header {
     /// The discount is `numerator / denominator`.
     pub numerator: u16,
     pub denominator: u16,
-    /// What each row adds up to.
+    /// What each row of a weighted chart adds up to.
     pub whole: u16,
     /// Where the bands begin.
     pub bands_at: usize,
@@ -40,6 +40,17 @@ impl Header {
             whole: field(bytes, WHOLE_AT),
             bands_at: usize::from(field(bytes, BANDS_AT)),
             routes_at: usize::from(field(bytes, ROUTES_AT)),
+        }
+    }
+
+    /// The band of section `s`, 0 where there is no such section.
+    pub fn band(self, bytes: &[u8], s: usize) -> u8
+        ensures { result ≡ band_by self bytes.now s }
+    {
+        if s < self.sections {
+            byte(bytes, self.bands_at.saturating_add(s))
+        } else {
+            0
         }
     }
 

@@ -1,21 +1,40 @@
-ghost use Rattle.std.specs.Prelude.{◌≡◌, ◌≤◌};
-ghost use Rattle.files.specs.Kinds.{code as code_of, whole_allowed, route_bytes};
+ghost use Rattle.std.specs.Prelude.{◌≡◌, ◌≤◌, IfNone, IsSomeAnd};
+ghost use Rattle.files.specs.Kinds.{code as code_of, whole_allowed, route_bytes, kind_named};
+ghost use Rattle.files.specs.Refusals.{header_refusal, number};
+
+use crate::bytes::field;
+use crate::layout::KIND_AT;
 
 /// The kinds of chart that a file can hold.
 #[derive(Clone, Copy, PartialEq, Eq, Debug)]
 pub enum Kind {
     /// Each section has a row of parts, which add up to the whole.
     Weighted,
+    /// Each section has a mask, which marks its successors.
+    Choice,
 }
 
 impl Kind {
+    /// The kind that a file names, if it names one.
+    /// A file that names none can be read as any kind: it is refused with 1 or 2.
+    #[tactic(auto, using(crate::proofs::Reading::unless_named))]
+    pub fn of(bytes: &[u8]) -> Option<Kind>
+        ensures answer { result ≡ kind_named bytes.now }
+        ensures refused { IfNone result ((kind : Kind) → IsSomeAnd (header_refusal kind bytes.now) (λ e. number e ≤ 2)) }
+    {
+        let code = field(bytes, KIND_AT);
+        [Kind::Weighted, Kind::Choice]
+            .into_iter()
+            .find(|kind| kind.code() == code)
+    }
+
     /// The number by which a file names the kind.
-    // Not `TryFrom`: a file is read as one kind, and its number is compared with that kind's.
     pub(crate) fn code(self) -> u16
         ensures { result ≡ code_of self }
     {
         match self {
             Kind::Weighted => 1,
+            Kind::Choice => 2,
         }
     }
 
@@ -25,6 +44,7 @@ impl Kind {
     {
         match self {
             Kind::Weighted => (1..=10_000).contains(&whole),
+            Kind::Choice => whole == 0,
         }
     }
 
@@ -35,6 +55,7 @@ impl Kind {
     {
         match self {
             Kind::Weighted => 2 * (sections * sections),
+            Kind::Choice => 4 * sections,
         }
     }
 }

@@ -26,6 +26,8 @@ pub enum ReadRefusal {
     Routes,
     /// The row of this section does not add up to the whole.
     Row(usize),
+    /// The mask of this section is 0, or marks a section that the chart has not.
+    Mask(usize),
 }
 
 impl ReadRefusal {
@@ -40,11 +42,11 @@ impl ReadRefusal {
             ReadRefusal::Discount => 4,
             ReadRefusal::Whole => 5,
             ReadRefusal::Bands | ReadRefusal::Routes => 6,
-            ReadRefusal::Row(_) => 7,
+            ReadRefusal::Row(_) | ReadRefusal::Mask(_) => 7,
         }
     }
 
-    /// The place of what is wrong: a file's size, a byte of its header, or a row.
+    /// The place of what is wrong: a file's size, a byte of its header, or a section.
     pub fn place(&self) -> usize
         ensures { result ≡ place_of self.now }
     {
@@ -57,7 +59,7 @@ impl ReadRefusal {
             ReadRefusal::Whole => WHOLE_AT,
             ReadRefusal::Bands => BANDS_AT,
             ReadRefusal::Routes => ROUTES_AT,
-            ReadRefusal::Row(row) => *row,
+            ReadRefusal::Row(section) | ReadRefusal::Mask(section) => *section,
         }
     }
 
@@ -77,6 +79,7 @@ impl ReadRefusal {
                 "the routes do not lie in the file, or share a byte with the bands"
             }
             ReadRefusal::Row(_) => "a row does not add up to the whole",
+            ReadRefusal::Mask(_) => "a mask is 0, or marks a section that the chart has not",
         }
     }
 }

@@ -1,11 +1,11 @@
 -- Sums and searches over the first n elements of a list, and the arrays that `from_fn` makes: what std's words say, place by place.
-use Rattle.std.proofs.Common.{◌≡◌, ℕ, zero, suc, ◌+◌, ◌<◌, ◌≤◌, Bool, List, length, get_or, take, sym, refl, ap, ◌∙◌, subst, ⊎_elim, add-one, arith}
+use Rattle.std.proofs.Common.{◌≡◌, ℕ, zero, suc, ◌+◌, ◌<◌, ◌≤◌, Bool, List, [], ◌∷◌, length, get_or, take, sym, refl, ap, ◌∙◌, subst, ⊎_elim, add-one, arith}
 use Rattle.std.proofs.lemmas.Bool.{cases_eq, cases_lt, lt-ltb, le-ltb}
 use Rattle.std.proofs.lemmas.List.{get_or_past, get_or-take, length-take-le}
 use Rattle.std.proofs.lemmas.List.Sums.{sum_by_more, fails_before_first, passes_at_first}
 use Rattle.std.specs.Array.{IsFromFnResult, IsFromFnResultFrom}
 use Rattle.std.specs.Fn.{Called, Mut}
-use Rattle.std.specs.List.{sum_by, position, position_or_len}
+use Rattle.std.specs.List.{AllByRecursion, sum_by, position, position_or_len}
 use Rattle.finite.specs.Sums.{sum}
 use Rattle.finite.specs.Search.{least}
 use Rattle.finite.proofs.Search.{least_none, least_found}
@@ -27,6 +27,11 @@ position_least p q xs n d long same =
 
 pub position_in_first : {X : Type 0} (p : X → Bool) (n : ℕ) (xs : List X) (d : X) → n ≤ length xs → position p (take n xs) ≡ least n (λ i. p (get_or xs i d))
 position_in_first p n xs d l = position_least p (λ i. p (get_or xs i d)) (take n xs) n d (length-take-le n xs l) (λ i h. ap p (sym (get_or-take n xs i d h)))
+
+-- what holds at each place holds of each element
+pub each_at : {X : Type 0} (P : X → Type 0) (xs : List X) (d : X) → ((i : ℕ) → i < length xs → P (get_or xs i d)) → AllByRecursion P xs
+each_at P [] d h = tt
+each_at P (x ∷ xs) d h = (h 0 (omega arith), each_at P xs d (λ i l. h (suc i) (omega arith)))
 
 -- f is a closure that leaves what it captures as it is, and P holds of each place and what f answers there
 module _ {F B : Type 0} {g : Mut F (ℕ × Unit {0}) B} {f : F} where

@@ -1,5 +1,5 @@
 -- Lemmas on searches, and on the first of several checks.
-use Rattle.std.proofs.Common.{◌≡◌, ℕ, zero, suc, ◌<◌, Bool, true, false, List, [], ◌∷◌, Some, None, Option, sym, refl, ap, ◌∙◌, ⊎_elim, arith}
+use Rattle.std.proofs.Common.{◌≡◌, ℕ, zero, suc, ◌<◌, Bool, true, false, List, [], ◌∷◌, Some, None, Option, is_some, sym, refl, ap, ◌∙◌, ⊎_elim, arith}
 use Rattle.std.specs.Option.{option_map}
 use Rattle.std.proofs.lemmas.Bool.{cases_eq}
 use Rattle.finite.specs.Search.{given, first_of, least}
@@ -53,3 +53,16 @@ least_at (suc n) p i e = at (least n p) (p n) refl refl (least_at n p i) e where
 pub least_same : (n : ℕ) (p q : ℕ → Bool) → ((i : ℕ) → i < n → p i ≡ q i) → least n p ≡ least n q
 least_same zero p q h = refl
 least_same (suc n) p q h = rw (least_same n p q (λ i l. h i (omega arith)), h n (omega arith))
+
+-- whether there is a least number, and one that passes
+pub some_least : (n : ℕ) (p : ℕ → Bool) → is_some (least n p) ≡ true → (i : ℕ) × (i < n) × (p i ≡ true)
+some_least n p e = by (least n p) refl e where
+  by : (o : Option ℕ) → least n p ≡ o → is_some o ≡ true → (i : ℕ) × (i < n) × (p i ≡ true)
+  by (Some i) is h = let l = least_at n p i is in (i, l.within, l.passes)
+  by None is h = absurd (cc h)
+
+pub least_some : (n : ℕ) (p : ℕ → Bool) (i : ℕ) → i < n → p i ≡ true → is_some (least n p) ≡ true
+least_some n p i l e = by (least n p) refl where
+  by : (o : Option ℕ) → least n p ≡ o → is_some o ≡ true
+  by (Some k) is = refl
+  by None is = absurd (cc (e, least_none_at n p is i l))

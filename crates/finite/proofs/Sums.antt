@@ -1,9 +1,9 @@
--- Laws of sums over the numbers below n.
-use Rattle.std.proofs.Common.{◌≡◌, ℕ, zero, suc, ◌+◌, ◌*◌, ◌<◌, ◌≤◌, cond, eqb, ℤ, sym, refl, ap, ◌∙◌, ⊎_elim, mul_comm, arith}
+-- Laws of sums over the numbers below n, and of the greatest of several numbers.
+use Rattle.std.proofs.Common.{◌≡◌, ℕ, zero, suc, ◌+◌, ◌*◌, ◌<◌, ◌≤◌, max, cond, eqb, ℤ, sym, refl, subst, ap, ◌∙◌, ⊎_elim, mul_comm, arith}
 use borrow.Author.Differences.{up, down, sum_is_lem}
-use Rattle.std.proofs.lemmas.Bool.{cases_eq}
+use Rattle.std.proofs.lemmas.Bool.{cases_lt, cases_eq}
 use Rattle.std.proofs.lemmas.Bool.Decides.{nat_tests}
-use Rattle.finite.specs.Sums.{sum, sumℤ}
+use Rattle.finite.specs.Sums.{sum, sumℤ, greatest}
 
 pub sum_same : (n : ℕ) (f g : ℕ → ℕ) → ((i : ℕ) → i < n → f i ≡ g i) → sum n f ≡ sum n g
 sum_same zero f g h = refl
@@ -58,3 +58,16 @@ sumℤ_parts (suc n) f = omega (arith, sumℤ_parts n f, sum_is_lem (sumℤ n f)
 pub sumℤ_same : (n : ℕ) (f g : ℕ → ℤ) → ((i : ℕ) → i < n → f i ≡ g i) → sumℤ n f ≡ sumℤ n g
 sumℤ_same zero f g h = refl
 sumℤ_same (suc n) f g h = rw (sumℤ_same n f g (λ i l. h i (omega arith)), h n (omega arith))
+
+pub term_le_greatest : (n : ℕ) (f : ℕ → ℕ) (i : ℕ) → i < n → f i ≤ greatest n f
+term_le_greatest zero f i l = absurd (omega arith)
+term_le_greatest (suc n) f i l = ⊎_elim (λ e. omega (arith, ap f e)) (λ d. omega (arith, term_le_greatest n f i (omega arith))) (cases_eq i n)
+
+-- what holds of 0 and of each number holds of the greatest
+pub greatest_is : (P : ℕ → Type 0) (n : ℕ) (f : ℕ → ℕ) → P 0 → ((i : ℕ) → i < n → P (f i)) → P (greatest n f)
+greatest_is P zero f none h = none
+greatest_is P (suc n) f none h =
+    ⊎_elim
+    (λ l. let last : f n ≡ max (greatest n f) (f n) = omega arith in subst P last (h n (omega arith)))
+    (λ l. let before : greatest n f ≡ max (greatest n f) (f n) = omega arith in subst P before (greatest_is P n f none (λ i k. h i (omega arith))))
+    (cases_lt (greatest n f) (f n))

@@ -9,11 +9,16 @@ ghost use Rattle.lines.specs.Numerals.{number_of};
 mod failure;
 mod session;
 
+use chart::kind::Chart;
 use chart::top::{Top, TopRefusal};
+use choice::charts::Choice;
 use failure::Failure;
+use files::kind::Kind;
+use files::refusal::ReadRefusal;
 use lines::numerals::read_number;
 use register::register::Register;
 use session::settle_lines;
+use std::fmt::Display;
 use std::fs::File;
 use std::io::{BufReader, BufWriter, Read, Write};
 use std::process::ExitCode;
@@ -42,18 +47,39 @@ fn file_bytes(rt: &HostRuntime, path: &str) -> io::Result<Vec<u8>> {
     Ok(bytes)
 }
 
+/// A chart of the kind that a file names.
+#[derive(Drop)]
+enum FileChart {
+    Weighted(Weighted),
+    Choice(Choice),
+}
+
+impl FileChart {
+    /// The chart in a file with these bytes. A file of neither kind is refused as a weighted one.
+    fn read(bytes: &[u8]) -> Result<FileChart, ReadRefusal> {
+        match Kind::of(bytes) {
+            Some(Kind::Choice) => {
+                let mut chart = Choice::fresh();
+                chart.read(bytes)?;
+                Ok(FileChart::Choice(chart))
+            }
+            Some(Kind::Weighted) | None => {
+                let mut chart = Weighted::fresh();
+                chart.read(bytes)?;
+                Ok(FileChart::Weighted(chart))
+            }
+        }
+    }
+}
+
 /// The chart in a file.
-fn read_chart(rt: &HostRuntime, path: String) -> Result<Weighted, Failure> {
+fn read_chart(rt: &HostRuntime, path: String) -> Result<FileChart, Failure> {
     // Not `map_err`: its closure would take the path, which the next refusal names too.
     let bytes = match file_bytes(rt, path.as_str()) {
         Ok(bytes) => bytes,
         Err(error) => return Err(Failure::Unreadable(path, error)),
     };
-    let mut chart = Weighted::fresh();
-    chart
-        .read(bytes.as_slice())
-        .map_err(|refusal| Failure::Chart(path, refusal))?;
-    Ok(chart)
+    FileChart::read(bytes.as_slice()).map_err(|refusal| Failure::Chart(path, refusal))
 }
 
 /// The top that a text writes.
@@ -64,10 +90,11 @@ fn read_top(text: &str) -> Result<Top, Failure>
     Ok(Top::new(u64::from(number))?)
 }
 
-fn run(rt: &HostRuntime) -> Result<(), Failure> {
-    let (path, top) = arguments(rt)?;
-    let chart = read_chart(rt, path)?;
-    let top = read_top(top.as_str())?;
+/// Plays the calls of standard input on a register of a chart.
+fn play_calls<C: Chart + Drop>(rt: &HostRuntime, chart: C, top: Top) -> Result<(), Failure>
+where
+    C::Fault: Display + Drop,
+{
     let mut register = Register::new(chart, top);
     let input = BufReader::new(rt.alloc(), rt.stdin())?;
     let mut out = BufWriter::new(rt.alloc(), rt.stdout())?;
@@ -76,6 +103,16 @@ fn run(rt: &HostRuntime) -> Result<(), Failure> {
     let flushed = out.flush();
     settled?;
     Ok(flushed?)
+}
+
+fn run(rt: &HostRuntime) -> Result<(), Failure> {
+    let (path, top) = arguments(rt)?;
+    let chart = read_chart(rt, path)?;
+    let top = read_top(top.as_str())?;
+    match chart {
+        FileChart::Weighted(chart) => play_calls(rt, chart, top),
+        FileChart::Choice(chart) => play_calls(rt, chart, top),
+    }
 }
 
 fn main(rt: HostRuntime) -> ExitCode {

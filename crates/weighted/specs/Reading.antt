@@ -1,20 +1,18 @@
 -- The weighted chart that a file holds, and why a file is not read.
-use Rattle.std.specs.Prelude.{ℕ, ◌+◌, ◌*◌, cond, not, ◌&&◌, List, [], ◌∷◌, Some, None, Ok, Err, Option, Result, ◌==◌, nat_lt}
+use Rattle.std.specs.Prelude.{ℕ, ◌+◌, ◌*◌, cond, not, ◌&&◌, List, [], ◌∷◌, Option, Result, ◌==◌, nat_lt}
 use Rattle.std.specs.Option.{option_map}
 use Rattle.finite.specs.Sums.{sum}
 use Rattle.finite.specs.Search.{first_of, least}
 use Rattle.files.specs.declared.kind.Kind.TheVariants.{Weighted as weighted_kind}
 use Rattle.files.specs.declared.refusal.ReadRefusal.{ReadRefusal}
 use Rattle.files.specs.declared.refusal.ReadRefusal.TheVariants.{Row}
-use Rattle.files.specs.Format.{byte, field, sections_field, numerator_field, denominator_field, whole_field, bands_field, routes_field}
+use Rattle.files.specs.Format.{field, sections_field, numerator_field, denominator_field, whole_field, routes_field}
+use Rattle.files.specs.Headers.{band_in}
+use Rattle.files.specs.Reading.{unless_refused}
 use Rattle.files.specs.Refusals.{header_refusal}
 use Rattle.chain.specs.Chain.{Chain}
 
--- the bands are a byte for each section; what is outside the sections counts as 0
-abbrev pub band_in : List ℕ → ℕ → ℕ
-band_in bs s = cond (nat_lt s (sections_field bs)) (byte bs (bands_field bs + s)) 0
-
--- the routes are a row for each section, with 16 bits for each section
+-- the routes are a row for each section, with 16 bits for each section; what is outside the sections counts as 0
 abbrev pub part_in : List ℕ → ℕ → ℕ → ℕ
 part_in bs s u = cond (nat_lt s (sections_field bs) && nat_lt u (sections_field bs)) (field bs (routes_field bs + 2 * (s * sections_field bs + u))) 0
 
@@ -38,10 +36,7 @@ read_refusal bs = first_of (
 
 -- what a reader answers: the refusal, if there is one, and else the number of sections
 abbrev pub read_answer : List ℕ → Result ℕ ReadRefusal
-read_answer bs = of (read_refusal bs) where
-  of : Option ReadRefusal → Result ℕ ReadRefusal
-  of (Some e) = Err e
-  of None = Ok (sections_field bs)
+read_answer bs = unless_refused (read_refusal bs) (sections_field bs)
 
 -- one section of band 0 with a route to itself, discount 1/2, and 1 part
 abbrev pub fresh_chain : Chain

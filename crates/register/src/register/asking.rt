@@ -47,9 +47,8 @@ impl<C: Chart> Register<C> {
     pub fn weigh(&self, side: Side, s: usize, t: usize, words: &[i32]) -> Result<u32, C::Fault>
         ensures { result ≡ (C.Chart.meaning (chart_of self.now)).weigh side (over (top_of self.now) (side_of side (held self.now))) s t words.now }
     {
-        self.contents
-            .chart
-            .weigh(side, self.contents.tables.of(side), s, t, words)
+        let held = &self.contents;
+        held.chart.weigh(side, held.tables.of(side), s, t, words)
     }
 
     /// The lower entry of a pair, the upper entry, and what they say.

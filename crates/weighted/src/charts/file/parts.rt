@@ -3,13 +3,14 @@ ghost use Rattle.std.specs.Result.{result_err};
 ghost use Rattle.finite.specs.Sums.{sum};
 ghost use Rattle.finite.specs.Search.{least};
 ghost use Rattle.weighted.specs.Rows.{entry_at};
-ghost use Rattle.weighted.specs.Reading.{band_in, part_in};
+ghost use Rattle.weighted.specs.Reading.{part_in};
+ghost use Rattle.files.specs.Headers.{band_in};
 ghost use Rattle.files.specs.Refusals.{header_refusal};
 ghost use Rattle.files.specs.declared.kind.Kind.TheVariants.{Weighted as weighted_kind};
 
 use crate::charts::file::ChartFile;
 use chart::table::SECTIONS;
-use files::bytes::{byte, field};
+use files::bytes::field;
 use files::header::read_header;
 use files::kind::Kind;
 use files::refusal::ReadRefusal;
@@ -30,18 +31,7 @@ impl<'a> ChartFile<'a> {
     pub(crate) fn bands(&self) -> [u8; SECTIONS]
         ensures { (s : ℕ) → slice_index result s ≡ band_in self.now.bytes.now s }
     {
-        from_fn(|s| self.band(s))
-    }
-
-    /// The band of section `s`, 0 where there is no such section.
-    fn band(&self, s: usize) -> u8
-        ensures { result ≡ band_in self.now.bytes.now s }
-    {
-        if s < self.header.sections {
-            byte(self.bytes, self.header.bands_at + s)
-        } else {
-            0
-        }
+        from_fn(|s| self.header.band(self.bytes, s))
     }
 
     /// The part of section `u` in row `s`, 0 where there is no such section.

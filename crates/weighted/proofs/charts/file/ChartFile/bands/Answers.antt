@@ -1,7 +1,7 @@
 use Rattle.std.proofs.Common.{◌≡◌, rules, arith}
 use Rattle.std.proofs.lemmas.Bool.Decides.{nat_tests}
 use Rattle.finite.proofs.Lists.{made_everywhere}
-use Rattle.weighted.specs.Reading.{band_in}
+use Rattle.files.specs.Headers.{band_in}
 use Rattle.weighted.proofs.charts.file.ChartFile.bands.Goals as goal
 
 pub returns : goal.returns

@@ -1,0 +1,6 @@
+mod Quotients
+mod Searches
+mod Pairs
+mod Scan
+mod Marks
+mod Told

@@ -1,0 +1,5 @@
+pub mod View
+pub mod Gathering
+pub mod Sides
+pub mod Soundness
+pub mod Reading
