@@ -191,7 +191,6 @@ LEAST = [
     (weigh("lower", 0, 3, [0, 2] + [0] * 6), "fault 112 1 (word 1 is further from 0 than the top)"),
 ]
 
-# on `split` over the greatest top, each refusal, and nothing entered
 # The choice chart of the examples: from section 0 one chooses 0 or 1, from 1 goes on to 1, and from 2 to 2.
 CHOICES = [
     (weigh("upper", 0, 1, [0, 1, 1, 1]), FAULT_100),
@@ -208,6 +207,7 @@ CHOICES = [
     (weigh("upper", 0, 2, [0, 2, 1, 2]), "= 4"),
     (weigh("lower", 0, 1, [0, 1, 8]), FAULT_100),
     (weigh("lower", 0, 2, [0, 1]), "fault 131 2 (potentials cannot have 2 words: they have three)"),
+    (weigh("lower", 0, 2, [0, 1, 8, 8]), "fault 131 4 (potentials cannot have 4 words: they have three)"),
     (weigh("lower", 0, 2, [2, 2, 9]), "fault 132 0 (the side is not 0 or 1)"),
     (weigh("lower", 0, 2, [-1, 0, 0]), "fault 132 0 (the side is not 0 or 1)"),
     (weigh("lower", 0, 2, [0, 2, 9]), "fault 133 1 (the section is no successor on its side)"),
@@ -236,6 +236,19 @@ CHOSEN = (
     + [("ask 0 2", "= 4 4 settled")]
 )
 
+# 0 and 2 as in that chart, 3 goes on to 0 and 4 to 2; the entries of (0, 2) are entered, and those of (2, 0) are not
+FIVE = choice(5, 1, 2, [0, 1, 0, 0, 0], [3, 2, 4, 1, 4])
+ONE_WAY = draft("upper", {(0, 2): (4, [0, 2, 1, 2])}) + draft("lower", {(0, 2): (4, [0, 1, 8])}) + [
+    (weigh("upper", 3, 4, [0, 2]), "= 2"),
+    (weigh("upper", 4, 3, [2, 0]), "= 4"),
+    (weigh("lower", 3, 4, [0, 0, 4]), "= 2"),
+    (weigh("lower", 3, 4, [0, 0, 5]), "fault 135 2 (the entry with successor 2 of the other section is below the floor)"),
+    (weigh("lower", 3, 4, [1, 2, 4]), "= 2"),
+    (weigh("lower", 3, 4, [1, 2, 5]), "fault 135 0 (the entry with successor 0 of the other section is below the floor)"),
+    (weigh("lower", 4, 3, [0, 2, 1]), "fault 135 0 (the entry with successor 0 of the other section is below the floor)"),
+    (weigh("lower", 4, 3, [1, 0, 1]), "fault 135 2 (the entry with successor 2 of the other section is below the floor)"),
+]
+
 EACH = [word for pair in itertools.product(range(32), repeat=2) for word in pair]
 WIDEST_CHOICES = [
     (weigh("upper", 0, 31, EACH), "= 999000000"),
@@ -248,6 +261,7 @@ WIDEST_CHOICES = [
     (weigh("lower", 0, 31, [0, 31, TOP + 1]), "fault 134 2 (the floor is not from 0 to the top)"),
 ]
 
+# on `split` over the greatest top, each refusal, and nothing entered
 REFUSALS = [
     ("ask 31 32", f"refused 80 {OUTSIDE}"),
     ("ask 4294967295 0", f"refused 80 {OUTSIDE}"),
@@ -299,6 +313,7 @@ PLAYED = [
      {(s, t): (0, 0) for s in range(32) for t in range(32)}),
     ("choices", THREE, 8, CHOICES, {}),
     ("all choices settled", THREE, 8, CHOSEN, {(s, t): (4, 4) if s != t else (0, 0) for s, t in [(0, 0), (0, 2), (1, 1), (2, 0), (2, 2)]}),
+    ("choices of which one direction is settled", FIVE, 8, ONE_WAY, {(0, 2): (4, 4)}),
     ("the widest choices", ALL_32, TOP, WIDEST_CHOICES, {}),
     ("every choice of 32 sections", ALL_32, TOP, draft("upper", {(s, t): (0, EACH) for s in range(32) for t in range(32)}),
      {(s, t): (0, 0) for s in range(32) for t in range(32)}),
@@ -341,7 +356,7 @@ TOP_REFUSED = "TOP refused 11 (the top is not a whole number from 1 to 1,000,000
 LENGTH = "the length field is not the size of the file"
 SECTIONS = "the number of sections is not from 1 to 32"
 DISCOUNT = "the discount a / b does not have 1 <= a < b <= 1000"
-PARTS = "the kind of chart does not allow this whole"
+PARTS = "P is not from 1 to 10,000, or in a choice chart not 0"
 BANDS = "the bands do not lie in the file"
 ROUTES = "the routes do not lie in the file, or share a byte with the bands"
 MASK = "a mask is 0, or marks a section that the chart has not"
@@ -375,6 +390,11 @@ REFUSED = [
     ("a mask with bit 3 of 3 sections", choice(3, 1, 2, [0, 1, 0], [3, 2, 8]), 8, f"a.chart refused 7 2 ({MASK})"),
     ("a mask low byte first", choice(3, 1, 2, [0, 1, 0], [0x03000000, 2, 4]), 8, f"a.chart refused 7 0 ({MASK})"),
     ("a mask with bit 31 of 31 sections", choice(31, 1, 2, [0] * 31, [1] * 30 + [1 << 31]), 8, f"a.chart refused 7 30 ({MASK})"),
+    ("choices of no sections", choice(0, 1, 2, [], []), 8, f"a.chart refused 3 2 ({SECTIONS})"),
+    ("choices with discount 1", choice(3, 2, 2, [0, 1, 0], [3, 2, 4]), 8, f"a.chart refused 4 4 ({DISCOUNT})"),
+    ("choices with bands in the header", choice(3, 1, 2, [0, 1, 0], [3, 2, 4], bands_at=15), 8, f"a.chart refused 6 10 ({BANDS})"),
+    ("masks that share a byte", choice(3, 1, 2, [0, 1, 0], [3, 2, 4], routes_at=18), 8, f"a.chart refused 6 12 ({ROUTES})"),
+    ("choices of another length", choice(3, 1, 2, [0, 1, 0], [3, 2, 4], length=32), 8, f"a.chart refused 1 14 ({LENGTH})"),
     ("15 bytes of a choice chart", THREE[:15], 8, "a.chart refused 1 15 (the file has fewer than 16 bytes)"),
 ]
 

@@ -10,8 +10,8 @@ use Rattle.finite.proofs.Sums.{sum_same, sum_none, sum_one, term_le_sum}
 use Rattle.std.specs.List.{All, AllByRecursion}
 use Rattle.chart.specs.Distances.{Distances}
 use Rattle.chart.specs.Meaning.{Word}
+use Rattle.chart.specs.Words.{word, Between}
 use Rattle.chain.specs.Chain.{Chain, Sound}
-use Rattle.chain.specs.Words.{word, Between}
 use Rattle.chain.specs.Pairing.{left, right, amount, triples, cost, Pairing}
 
 -- the sum of f over the triples

@@ -1,7 +1,7 @@
 -- Weighted charts keep every law of a kind, and their supported tables are nowhere raised.
 use Rattle.std.proofs.Common.{◌≡◌, ℕ, zero, suc, ◌+◌, ◌-◌, ◌*◌, ◌/◌, ◌%◌, ◌<◌, ◌≤◌, true, List, length, ℤ, pos, ◌*ℤ◌, Some, None, Err, Option, sym, refl, ap, ◌∙◌, inl, inr, ⊎_elim, le_trans, mul-le-mul, mul-le-mul_left, mul-pos, arith}
 use borrow.Author.Differences.{le_out, at_most_in}
-use Rattle.std.proofs.lemmas.Bool.{true_from_ne_false, cases_lt, eq-eqb, not_from_true}
+use Rattle.std.proofs.lemmas.Bool.{cases_lt}
 use Rattle.std.specs.List.{AllByRecursion}
 use Rattle.finite.specs.Sums.{sum}
 use Rattle.finite.proofs.Sums.{sum_le, sum_mul}
@@ -9,19 +9,21 @@ use Rattle.finite.proofs.Lists.{each_at}
 use Rattle.chart.specs.declared.side.Side.{Side}
 use Rattle.chart.specs.declared.side.Side.TheVariants.{Upper, Lower}
 use Rattle.chart.specs.Distances.{Distances}
-use Rattle.chart.specs.Weighing.{Weaker, Weighs}
-use Rattle.chart.specs.Meaning.{Judged, Shown, Word}
+use Rattle.chart.specs.Weighing.{Weaker, Weighs, answer}
+use Rattle.chart.specs.Meaning.{Shown, Word}
 use Rattle.chart.specs.Laws.{Tighter, Lawful}
+use Rattle.chart.specs.Bands.{unjudged}
+use Rattle.chart.specs.Words.{word}
+use Rattle.chart.proofs.Bands.{parted_self, judged_of, is_unjudged}
 use Rattle.chart.proofs.Claims.{least_shown}
 use Rattle.chain.specs.declared.fault.Fault.{Fault}
 use Rattle.chain.specs.declared.fault.Fault.TheVariants.{Unjudged}
-use Rattle.chain.specs.Chain.{Chain, Sound, Judges, unjudged}
+use Rattle.chain.specs.Chain.{Chain, Sound}
 use Rattle.chain.specs.Pairing.{left, right, amount, triples, cost, Pairing, PairingShows, pairing_fault, least_claim}
 use Rattle.chain.specs.Potentials.{gain, Potentials, PotentialsShow, potentials_fault, greatest_claim}
-use Rattle.chain.specs.Meaning.{Valid, Shows, answer, weighed, means}
+use Rattle.chain.specs.Meaning.{Valid, Shows, weighed, means}
 use Rattle.chain.specs.Coupling.{Coupling, total, MeanAtMost, SupportedIsNowhereRaised}
-use Rattle.chain.proofs.Valid.{judges_from, pairing_from, pairing_to, potentials_from, potentials_to}
-use Rattle.chain.specs.Words.{word}
+use Rattle.chain.proofs.Valid.{pairing_from, pairing_to, potentials_from, potentials_to}
 use Rattle.chain.proofs.Words.{between_word}
 use Rattle.chain.proofs.Claims.{signed_greatest_shown}
 use Rattle.chain.proofs.Couplings.{left_in, right_in, spelled, spelled_total, mean_shown, product, mass, potentials_bounded}
@@ -41,16 +43,10 @@ module _ (c : Chain) (sound : Sound c) where
     by (Some f) e = λ v. cc (sym (potentials_to c d s t ws v) ∙ e)
     by None e = (potentials_from c d s t ws e, signed_greatest_shown c.a (c.b * c.whole) scale_some (gain c s t ws))
 
-  judged_of : (s t : ℕ) → Judges c s t → Judged (means c) s t
-  judged_of s t j = record { first_in = j.first_in; second_in = j.second_in; together = not_from_true _ (eq-eqb _ _ j.alike) }
-
-  outside_first : (side : Side) (d : Distances) (s t : ℕ) (ws : List ℤ) → unjudged c s t ≡ true → weighed c side d s t ws ≡ Err Unjudged
+  outside_first : (side : Side) (d : Distances) (s t : ℕ) (ws : List ℤ) → unjudged c.n c.band s t ≡ true → weighed c side d s t ws ≡ Err Unjudged
   unfolding pairing_fault potentials_fault
   outside_first Upper d s t ws e = rw e
   outside_first Lower d s t ws e = rw e
-
-  is_unjudged : (s t : ℕ) → (Judged (means c) s t → ⊥) → unjudged c s t ≡ true
-  is_unjudged s t h = true_from_ne_false (unjudged c s t) (λ e. h (judged_of s t (judges_from c s t e)))
 
   -- by the place in its triple
   pairing_words : (d : Distances) (s t : ℕ) (ws : List ℤ) → Valid c Upper d s t ws → AllByRecursion Word ws
@@ -108,10 +104,10 @@ module _ (c : Chain) (sound : Sound c) where
     denominator_most = sound.b_most;
     longest_most = omega arith;
     weighs = weighs;
-    unjudged = λ side d s t ws h. (Unjudged, outside_first side d s t ws (is_unjudged s t h), refl);
+    unjudged = λ side d s t ws h. (Unjudged, outside_first side d s t ws (is_unjudged (means c) c.band (λ s t. refl) s t h), refl);
     words = pairing_words;
     short = short;
-    self_judged = λ s. not_from_true _ (eq-eqb (c.band s) (c.band s) refl);
+    self_judged = λ s l. parted_self c.band s;
     self_paired = λ s l.
         let i = itself c sound s l in
         (i.words, i.fit, λ d zeros. record { valid = i.valid; shows = omega (arith, ap (λ r. c.a * r) (i.free d zeros)) });
@@ -148,7 +144,7 @@ module _ (c : Chain) (sound : Sound c) where
     apart = sup.apart;
     judged = λ s t j. ⊎_elim
         (λ low.
-        let (ws, words, shown) = sup.judged s t (judged_of s t j) low in
+        let (ws, words, shown) = sup.judged s t (judged_of (means c) c.band (λ s t. refl) s t j) low in
         (spelled c s t ws shown.valid, mean_shown c s t ws shown.valid d (d.entry s t) shown.shows))
         (λ high.
         let top : d.entry s t ≡ d.top = omega (arith, sup.bounded s t j.first_in j.second_in) in

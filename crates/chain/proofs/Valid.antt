@@ -8,23 +8,19 @@ use Rattle.std.proofs.lemmas.Bool.Decides.{nat_tests}
 use Rattle.finite.specs.Search.{given, least}
 use Rattle.finite.proofs.Search.{first_of_none, given_none, mapped_none, least_none_at, least_none}
 use Rattle.chart.specs.Distances.{Distances}
+use Rattle.chart.specs.Bands.{unjudged}
+use Rattle.chart.specs.Words.{word, outside}
+use Rattle.chart.proofs.Bands.{judges_from, judges_to}
 use Rattle.chart.proofs.Words.{between_outside, outside_between}
 use Rattle.chain.specs.declared.fault.Fault.TheVariants.{Unjudged, PairingCount, FirstMargin, SecondMargin, PotentialsCount, Range, Above}
-use Rattle.chain.specs.Chain.{Chain, Judges, unjudged}
-use Rattle.chain.specs.Words.{word, outside}
+use Rattle.chain.specs.Chain.{Chain}
 use Rattle.chain.specs.Pairing.{left, right, margin, Pairing, bad_word, word_fault, pairing_fault}
 use Rattle.chain.specs.Potentials.{alpha, beta, above, Potentials, potentials_fault}
-
-pub judges_from : (c : Chain) (s t : ℕ) → unjudged c s t ≡ false → Judges c s t
-judges_from c s t e = record { first_in = grind (arith, nat_tests); second_in = grind (arith, nat_tests); alike = grind (arith, nat_tests) }
-
-pub judges_to : (c : Chain) (s t : ℕ) → Judges c s t → unjudged c s t ≡ false
-judges_to c s t j = rw (lt-ltb s c.n j.first_in, lt-ltb t c.n j.second_in, eq-eqb (c.band s) (c.band t) j.alike)
 
 pub pairing_from : (c : Chain) (s t : ℕ) (ws : List ℤ) → pairing_fault c s t ws ≡ None → Pairing c s t ws
 unfolding pairing_fault
 pairing_from c s t ws e =
-    let p0 = first_of_none (given (unjudged c s t) Unjudged) _ e in
+    let p0 = first_of_none (given (unjudged c.n c.band s t) Unjudged) _ e in
     let p1 = first_of_none (given (not (eqb (length ws % 3) 0) || ltb 3072 (length ws)) (PairingCount (length ws))) _ p0.1 in
     let p2 = first_of_none (option_map word_fault (least (length ws) (bad_word c ws))) _ p1.1 in
     let p3 = first_of_none (option_map FirstMargin (least c.n (λ u. not (eqb (margin left ws u) (c.part s u))))) _ p2.1 in
@@ -33,7 +29,7 @@ pairing_from c s t ws e =
     let threes : length ws % 3 ≡ 0 = grind (arith, nat_tests) in
     let words = least_none_at (length ws) (bad_word c ws) (mapped_none word_fault _ p2.0) in
     record {
-      judged = judges_from c s t (given_none _ _ p0.0);
+      judged = judges_from c.n c.band s t (given_none _ _ p0.0);
       threes = threes;
       few = grind (arith, nat_tests);
       left_word = λ j l. let e = words (3 * j) (omega arith) in outside_between (pos 0) (pos (c.n - 1)) (word ws (3 * j)) (grind (arith, nat_tests));
@@ -60,7 +56,7 @@ pub pairing_to : (c : Chain) (s t : ℕ) (ws : List ℤ) → Pairing c s t ws �
 unfolding pairing_fault
 pairing_to c s t ws p =
     simp (
-      judges_to c s t p.judged,
+      judges_to c.n c.band s t p.judged,
       eq-eqb (length ws % 3) 0 p.threes,
       le-ltb 3072 (length ws) p.few,
       least_none (length ws) (bad_word c ws) (words_good c s t ws p),
@@ -75,14 +71,14 @@ module _ (c : Chain) (d : Distances) (s t : ℕ) (ws : List ℤ) where
   pub potentials_from : potentials_fault c d s t ws ≡ None → Potentials c d s t ws
   unfolding potentials_fault
   potentials_from e =
-      let p0 = first_of_none (given (unjudged c s t) Unjudged) _ e in
+      let p0 = first_of_none (given (unjudged c.n c.band s t) Unjudged) _ e in
       let p1 = first_of_none (given (not (eqb (length ws) (2 * c.n))) (PotentialsCount (length ws))) _ p0.1 in
       let p2 = first_of_none (option_map Range (least (length ws) (λ i. outside (neg_ℤ (pos d.top)) (pos d.top) (word ws i)))) _ p1.1 in
       let p3 = first_of_none (option_map Above (least (c.n * c.n) (λ i. above c d s t ws (i / c.n) (i % c.n)))) _ p2.1 in
       let clear = least_none_at (c.n * c.n) (λ i. above c d s t ws (i / c.n) (i % c.n)) (mapped_none Above _ p3.0) in
       let count : length ws ≡ 2 * c.n = eqb-true _ _ (not-false _ (given_none _ _ p1.0)) in
       record {
-        judged = judges_from c s t (given_none _ _ p0.0);
+        judged = judges_from c.n c.band s t (given_none _ _ p0.0);
         count = count;
         range = λ i l. outside_between (neg_ℤ (pos d.top)) (pos d.top) (word ws i) (least_none_at (length ws) (λ i. outside (neg_ℤ (pos d.top)) (pos d.top) (word ws i)) (mapped_none Range _ p2.0) i (omega arith));
         under = λ u v lu lv hu hv.
@@ -102,7 +98,7 @@ module _ (c : Chain) (d : Distances) (s t : ℕ) (ws : List ℤ) where
   potentials_to p =
       let some : 0 < c.n = omega (arith, p.judged.first_in) in
       simp (
-        judges_to c s t p.judged,
+        judges_to c.n c.band s t p.judged,
         eq-eqb (length ws) (2 * c.n) p.count,
         least_none (length ws) (λ i. outside (neg_ℤ (pos d.top)) (pos d.top) (word ws i)) (λ i l. between_outside (neg_ℤ (pos d.top)) (pos d.top) (word ws i) (p.range i (omega (arith, p.count)))),
         least_none (c.n * c.n) (λ i. above c d s t ws (i / c.n) (i % c.n)) (λ i l. not_above p (i / c.n) (i % c.n) (div_below i c.n c.n some l) (mod_below i c.n some)),

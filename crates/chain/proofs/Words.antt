@@ -2,7 +2,7 @@
 use Rattle.std.proofs.Common.{ℕ, ◌<◌, ◌≤◌, ℤ, pos, negsuc, ◌≤ℤ◌, arith}
 use borrow.Author.Differences.{up, le_out}
 use Rattle.chart.specs.Meaning.{Word}
-use Rattle.chain.specs.Words.{Between}
+use Rattle.chart.specs.Words.{Between}
 
 -- the natural number of a word is within the word's bound
 pub up_most : (high : ℕ) (z : ℤ) → z ≤ℤ pos high → up z ≤ high

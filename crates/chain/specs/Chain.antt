@@ -1,5 +1,5 @@
 -- A weighted chart: a Markov chain in whole parts, a band for each of its states, and a discount.
-use Rattle.std.specs.Prelude.{◌≡◌, ℕ, ◌<◌, ◌≤◌, Bool, not, ◌||◌, ◌==◌, nat_lt}
+use Rattle.std.specs.Prelude.{◌≡◌, ℕ, ◌<◌, ◌≤◌}
 use Rattle.finite.specs.Sums.{sum}
 
 pub record Chain : Type 0 where
@@ -19,16 +19,3 @@ pub record Sound (c : Chain) : Type 0 where
   pub whole_least : 1 ≤ c.whole
   pub whole_most : c.whole ≤ 10000
   pub rows : (s : ℕ) → s < c.n → sum c.n (c.part s) ≡ c.whole
-
--- two sections are apart if their bands differ
-abbrev pub parted : Chain → ℕ → ℕ → Bool
-parted c s t = not (c.band s == c.band t)
-
--- two sections of one band
-pub record Judges (c : Chain) (s t : ℕ) : Type 0 where
-  pub first_in : s < c.n
-  pub second_in : t < c.n
-  pub alike : c.band s ≡ c.band t
-
-abbrev pub unjudged : Chain → ℕ → ℕ → Bool
-unjudged c s t = not (nat_lt s c.n) || (not (nat_lt t c.n) || parted c s t)

@@ -6,7 +6,8 @@ use Rattle.chart.specs.Distances.{Distances}
 use Rattle.chart.specs.Laws.{Within}
 use Rattle.chart.specs.Meaning.{Shown}
 use Rattle.chart.specs.Supported.{Supported}
-use Rattle.chain.specs.Chain.{Chain, Judges, parted}
+use Rattle.chart.specs.Bands.{Judges, parted}
+use Rattle.chain.specs.Chain.{Chain}
 use Rattle.chain.specs.Meaning.{means}
 
 -- A coupling of the rows of s and t: a matrix of whole amounts whose margins are Q times the rows, for some Q from 1.
@@ -30,8 +31,8 @@ module _ (c : Chain) {s t : ℕ} (k : Coupling c s t) (d : Distances) where
 -- The operator takes a table to 1 at apart pairs, and at a judged pair to the least discounted mean over all couplings.
 -- It nowhere raises the table: apart pairs stand at the top, and at each judged pair some coupling's discounted mean is at most the entry.
 pub record NowhereRaised (c : Chain) (d : Distances) : Type 0 where
-  pub apart : (s t : ℕ) → s < c.n → t < c.n → parted c s t ≡ true → d.entry s t ≡ d.top
-  pub judged : (s t : ℕ) → Judges c s t → (k : Coupling c s t) × MeanAtMost c k d (d.entry s t)
+  pub apart : (s t : ℕ) → s < c.n → t < c.n → parted c.band s t ≡ true → d.entry s t ≡ d.top
+  pub judged : (s t : ℕ) → Judges c.n c.band s t → (k : Coupling c s t) × MeanAtMost c k d (d.entry s t)
 
 -- a supported table is nowhere raised
 abbrev pub SupportedIsNowhereRaised : Chain → Type 0

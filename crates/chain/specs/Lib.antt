@@ -1,5 +1,4 @@
 pub mod Chain
-pub mod Words
 pub mod Pairing
 pub mod Potentials
 pub mod Faults

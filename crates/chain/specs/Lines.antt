@@ -1,11 +1,8 @@
 -- How a fault is written: its number, its place, and what is wrong in words.
-use Rattle.std.specs.Prelude.{ℕ, List, ◌++◌, codes, decimal}
+use Rattle.std.specs.Prelude.{ℕ, List, codes}
+use Rattle.chart.specs.Texts.{twice}
 use Rattle.chain.specs.declared.fault.Fault.{Fault}
 use Rattle.chain.specs.declared.fault.Fault.TheVariants.{Unjudged, PairingCount, Section, Amount, FirstMargin, SecondMargin, PotentialsCount, Range, Above}
-
--- a text with the same number in two places
-abbrev pub twice : List ℕ → ℕ → List ℕ → List ℕ → List ℕ
-twice before k between after = before ++ (decimal k ++ (between ++ (decimal k ++ after)))
 
 abbrev pub line : Fault → List ℕ
 line Unjudged = codes "100 0 (the pair is apart, or has a section that the chart has not)"

@@ -1,11 +1,13 @@
 -- What a weighted chart means.
-use Rattle.std.specs.Prelude.{ℕ, List, ℤ, Some, None, Ok, Err, Option, Result}
+use Rattle.std.specs.Prelude.{ℕ, List, ℤ, Result}
 use Rattle.chart.specs.declared.side.Side.{Side}
 use Rattle.chart.specs.declared.side.Side.TheVariants.{Upper, Lower}
 use Rattle.chart.specs.Distances.{Distances}
+use Rattle.chart.specs.Weighing.{answer}
 use Rattle.chart.specs.Meaning.{Meaning}
+use Rattle.chart.specs.Bands.{parted}
 use Rattle.chain.specs.declared.fault.Fault.{Fault}
-use Rattle.chain.specs.Chain.{Chain, parted}
+use Rattle.chain.specs.Chain.{Chain}
 use Rattle.chain.specs.Pairing.{Pairing, PairingShows, pairing_fault, cost, least_claim}
 use Rattle.chain.specs.Potentials.{Potentials, PotentialsShow, potentials_fault, gain, greatest_claim}
 use Rattle.chain.specs.Faults.{fault_numbers}
@@ -18,11 +20,6 @@ abbrev pub Shows : Chain → Side → Distances → ℕ → ℕ → List ℤ →
 Shows c Upper d s t ws claim = PairingShows c d ws claim
 Shows c Lower d s t ws claim = PotentialsShow c s t ws claim
 
--- the fault, or else the claim
-abbrev pub answer : Option Fault → ℕ → Result ℕ Fault
-answer (Some f) claim = Err f
-answer None claim = Ok claim
-
 abbrev pub weighed : Chain → Side → Distances → ℕ → ℕ → List ℤ → Result ℕ Fault
 weighed c Upper d s t ws = answer (pairing_fault c s t ws) (least_claim c (cost d ws))
 weighed c Lower d s t ws = answer (potentials_fault c d s t ws) (greatest_claim c (gain c s t ws))
@@ -33,7 +30,7 @@ means c = record {
   numerator = c.a;
   denominator = c.b;
   longest = 3072;
-  apart = parted c;
+  apart = parted c.band;
   valid = Valid c;
   shows = Shows c;
   weigh = weighed c;

@@ -5,10 +5,11 @@ use Rattle.std.specs.Option.{option_map}
 use Rattle.finite.specs.Sums.{sum}
 use Rattle.finite.specs.Search.{given, first_of, least}
 use Rattle.chart.specs.Distances.{Distances}
+use Rattle.chart.specs.Bands.{Judges, unjudged}
+use Rattle.chart.specs.Words.{word, Between, outside}
 use Rattle.chain.specs.declared.fault.Fault.{Fault}
 use Rattle.chain.specs.declared.fault.Fault.TheVariants.{Unjudged, PairingCount, Section, Amount, FirstMargin, SecondMargin}
-use Rattle.chain.specs.Chain.{Chain, Judges, unjudged}
-use Rattle.chain.specs.Words.{word, Between, outside}
+use Rattle.chain.specs.Chain.{Chain}
 
 -- the triple j, where its words are natural numbers
 abbrev pub left : List ℤ → ℕ → ℕ
@@ -33,7 +34,7 @@ cost d ws = sum (triples ws) (λ j. amount ws j * d.entry (left ws j) (right ws 
 
 -- a valid pairing: its margins are the two rows
 pub record Pairing (c : Chain) (s t : ℕ) (ws : List ℤ) : Type 0 where
-  pub judged : Judges c s t
+  pub judged : Judges c.n c.band s t
   pub threes : length ws % 3 ≡ 0
   pub few : length ws ≤ 3072
   pub left_word : (j : ℕ) → j < triples ws → Between (pos 0) (pos (c.n - 1)) (word ws (3 * j))
@@ -60,7 +61,7 @@ word_fault i = cond (nat_lt (i % 3) 2) (Section i) (Amount i)
 -- the first check that fails, if one does
 unfoldable pub pairing_fault : Chain → ℕ → ℕ → List ℤ → Option Fault
 pairing_fault c s t ws = first_of (
-    given (unjudged c s t) Unjudged
+    given (unjudged c.n c.band s t) Unjudged
     ∷ given (not (length ws % 3 == 0) || nat_lt 3072 (length ws)) (PairingCount (length ws))
     ∷ option_map word_fault (least (length ws) (bad_word c ws))
     ∷ option_map FirstMargin (least c.n (λ u. not (margin left ws u == c.part s u)))

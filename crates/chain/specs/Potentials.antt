@@ -5,10 +5,11 @@ use Rattle.std.specs.Option.{option_map}
 use Rattle.finite.specs.Sums.{sumℤ}
 use Rattle.finite.specs.Search.{given, first_of, least}
 use Rattle.chart.specs.Distances.{Distances}
+use Rattle.chart.specs.Bands.{Judges, unjudged}
+use Rattle.chart.specs.Words.{word, Between, outside}
 use Rattle.chain.specs.declared.fault.Fault.{Fault}
 use Rattle.chain.specs.declared.fault.Fault.TheVariants.{Unjudged, PotentialsCount, Range, Above}
-use Rattle.chain.specs.Chain.{Chain, Judges, unjudged}
-use Rattle.chain.specs.Words.{word, Between, outside}
+use Rattle.chain.specs.Chain.{Chain}
 
 -- α(u) and β(v)
 abbrev pub alpha : List ℤ → ℕ → ℤ
@@ -23,7 +24,7 @@ gain c s t ws = sumℤ c.n (λ u. pos (c.part s u) *ℤ alpha ws u) +ℤ sumℤ 
 
 -- valid potentials: they stay under the table at every pair of successors
 pub record Potentials (c : Chain) (d : Distances) (s t : ℕ) (ws : List ℤ) : Type 0 where
-  pub judged : Judges c s t
+  pub judged : Judges c.n c.band s t
   pub count : length ws ≡ 2 * c.n
   pub range : (i : ℕ) → i < 2 * c.n → Between (neg_ℤ (pos d.top)) (pos d.top) (word ws i)
   pub under : (u v : ℕ) → u < c.n → v < c.n → 0 < c.part s u → 0 < c.part t v → (alpha ws u +ℤ beta c ws v) ≤ℤ pos (d.entry u v)
@@ -43,7 +44,7 @@ above c d s t ws u v = nat_lt 0 (c.part s u) && (nat_lt 0 (c.part t v) && int_lt
 -- the first check that fails, if one does; the pair (u, v) has the place u × n + v
 unfoldable pub potentials_fault : Chain → Distances → ℕ → ℕ → List ℤ → Option Fault
 potentials_fault c d s t ws = first_of (
-    given (unjudged c s t) Unjudged
+    given (unjudged c.n c.band s t) Unjudged
     ∷ given (not (length ws == 2 * c.n)) (PotentialsCount (length ws))
     ∷ option_map Range (least (length ws) (λ i. outside (neg_ℤ (pos d.top)) (pos d.top) (word ws i)))
     ∷ option_map Above (least (c.n * c.n) (λ i. above c d s t ws (i / c.n) (i % c.n)))

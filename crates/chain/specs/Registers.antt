@@ -1,9 +1,10 @@
 -- What every register over a weighted chart promises of the discounted bisimilarity distance, with no real numbers.
 use Rattle.std.specs.Prelude.{◌≡◌, ℕ, ◌*◌, ◌<◌, ◌≤◌}
 use Rattle.chart.specs.Distances.{Distances}
+use Rattle.chart.specs.Bands.{Judges}
 use Rattle.history.specs.Rules.{State, over}
 use Rattle.history.specs.Promises.{Always, Below}
-use Rattle.chain.specs.Chain.{Chain, Judges}
+use Rattle.chain.specs.Chain.{Chain}
 use Rattle.chain.specs.Coupling.{NowhereRaised}
 use Rattle.chain.specs.Meaning.{means}
 
@@ -25,7 +26,7 @@ pub record Distance (c : Chain) (s t x K : ℕ) : Type 0 where
 
 -- at a judged pair whose two entries are equal, they are the distance
 abbrev pub SettledIsDistance : Chain → Type 0
-SettledIsDistance c = Always (means c) (λ K σ h. (s t : ℕ) → Judges c s t → σ.lower s t ≡ σ.upper s t → Distance c s t (σ.upper s t) K)
+SettledIsDistance c = Always (means c) (λ K σ h. (s t : ℕ) → Judges c.n c.band s t → σ.lower s t ≡ σ.upper s t → Distance c s t (σ.upper s t) K)
 
 -- at every pair of sections no lower entry is above the distance, and no upper one below it
 abbrev pub EntriesBoundDistance : Chain → Type 0

@@ -32,7 +32,7 @@ module _ {F : Type 0} (m : Meaning F) where
     pub words : (d : Distances) (s t : ℕ) (ws : List ℤ) → m.valid Upper d s t ws → AllByRecursion Word ws
     pub short : (side : Side) (d : Distances) (s t : ℕ) (ws : List ℤ) → m.valid side d s t ws → length ws ≤ m.longest
     -- no section is apart from itself, and a pairing of it with itself shows 0 in every table with zeros at all pairs (x, x)
-    pub self_judged : (s : ℕ) → m.apart s s ≡ false
+    pub self_judged : (s : ℕ) → s < m.sections → m.apart s s ≡ false
     pub self_paired : (s : ℕ) → s < m.sections
         → (ws : List ℤ) × AllByRecursion Word ws × ((d : Distances) → ((x : ℕ) → x < m.sections → d.entry x x ≡ 0) → Shown m Upper d s s ws 0)
     -- with a claim, a pairing shows each greater one, and potentials show each smaller one

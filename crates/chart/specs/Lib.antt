@@ -1,7 +1,9 @@
 pub mod Distances
 pub mod Tops
 pub mod Tables
+pub mod Words
 pub mod Weighing
+pub mod Bands
 pub mod Meaning
 pub mod Laws
 pub mod Starting

@@ -1,5 +1,5 @@
 -- The strongest claim of a showing, and what a weighing answers.
-use Rattle.std.specs.Prelude.{ℕ, ◌≤◌, Ok, Err, Result}
+use Rattle.std.specs.Prelude.{ℕ, ◌≤◌, Some, None, Ok, Err, Option, Result}
 use Rattle.chart.specs.declared.side.Side.{Side}
 use Rattle.chart.specs.declared.side.Side.TheVariants.{Upper, Lower}
 
@@ -12,6 +12,11 @@ Weaker Lower c d = d ≤ c
 pub record Strongest (side : Side) (shows : ℕ → Type 0) (c : ℕ) : Type 0 where
   pub shown : shows c
   pub others : (d : ℕ) → shows d → Weaker side c d
+
+-- the fault, or else the claim
+abbrev pub answer : {F : Type 0} → Option F → ℕ → Result ℕ F
+answer (Some f) claim = Err f
+answer None claim = Ok claim
 
 -- an answer if the showing is valid, and then its strongest claim; a fault if it is not
 abbrev pub Weighs : {F : Type 0} → Side → Type 0 → (ℕ → Type 0) → Result ℕ F → Type 0

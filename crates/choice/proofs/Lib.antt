@@ -1,4 +1,3 @@
-mod Quotients
 mod Searches
 mod Pairs
 mod Scan

@@ -3,8 +3,9 @@ use Rattle.std.proofs.Common.{◌≡◌, ℕ, ◌+◌, ◌*◌, ◌%◌, ◌<◌
 use Rattle.std.proofs.lemmas.Bool.{cases_eq, not_from_true, not_from_false}
 use Rattle.finite.specs.Search.{least}
 use Rattle.finite.proofs.Search.{least_none, least_found}
+use Rattle.chart.specs.Words.{word}
 use Rattle.transitions.specs.System.{System}
-use Rattle.transitions.specs.Words.{word, names}
+use Rattle.transitions.specs.Words.{names}
 use Rattle.transitions.specs.Pairing.{pairs, bad_word}
 
 module _ (c : System) (s t : ℕ) (ws : List ℤ) where

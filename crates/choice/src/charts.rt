@@ -2,8 +2,8 @@ ghost use Rattle.std.specs.Prelude.{◌≡◌, ℕ, ◌^◌, ◌<◌, ◌≤◌,
 
 use chart::table::SECTIONS;
 
-mod file;
 pub mod kind;
+mod masks;
 mod pairing;
 mod potentials;
 mod reading;

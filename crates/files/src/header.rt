@@ -44,7 +44,7 @@ impl Header {
     }
 
     /// The band of section `s`, 0 where there is no such section.
-    pub fn band(self, bytes: &[u8], s: usize) -> u8
+    pub(crate) fn band(self, bytes: &[u8], s: usize) -> u8
         ensures { result ≡ band_by self bytes.now s }
     {
         if s < self.sections {
@@ -126,7 +126,7 @@ impl Header {
 
 /// The header of a file that should hold a chart of the kind, or the first check that it fails.
 #[tactic(auto, using(crate::proofs::Reading::fits_unrefused))]
-pub fn read_header(bytes: &[u8], kind: Kind) -> Result<Header, ReadRefusal>
+pub(crate) fn read_header(bytes: &[u8], kind: Kind) -> Result<Header, ReadRefusal>
     ensures answer { result ≡ header_read kind bytes.now }
     ensures fits { IfOk result (λ h. Fits kind bytes.now h) }
 {

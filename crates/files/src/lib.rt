@@ -1,4 +1,4 @@
-//! Chart files: the fields of a file's header, and the first reason why a file is not read.
+//! Chart files: the fields of a file's header, its bands, and the first reason why a file is not read.
 //!
 //! A file begins with eight fields of 16 bits, high byte first: the kind of chart, the number of sections,
 //! the numerator and the denominator of the discount, what each row of a weighted chart adds up to (0 for
@@ -11,6 +11,7 @@
 #![tactic(auto)]
 
 pub mod bytes;
+pub mod file;
 pub mod header;
 pub mod kind;
 mod layout;

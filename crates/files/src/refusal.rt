@@ -73,7 +73,7 @@ impl ReadRefusal {
             ReadRefusal::OtherKind => "the file holds another kind of chart",
             ReadRefusal::Sections => "the number of sections is not from 1 to 32",
             ReadRefusal::Discount => "the discount a / b does not have 1 <= a < b <= 1000",
-            ReadRefusal::Whole => "the kind of chart does not allow this whole",
+            ReadRefusal::Whole => "P is not from 1 to 10,000, or in a choice chart not 0",
             ReadRefusal::Bands => "the bands do not lie in the file",
             ReadRefusal::Routes => {
                 "the routes do not lie in the file, or share a byte with the bands"

@@ -1,3 +1,4 @@
 pub mod Sums
 pub mod Search
 pub mod Lists
+pub mod Quotients

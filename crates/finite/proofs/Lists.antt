@@ -1,11 +1,12 @@
--- Sums and searches over the first n elements of a list, and the arrays that `from_fn` makes: what std's words say, place by place.
-use Rattle.std.proofs.Common.{◌≡◌, ℕ, zero, suc, ◌+◌, ◌<◌, ◌≤◌, Bool, List, [], ◌∷◌, length, get_or, take, sym, refl, ap, ◌∙◌, subst, ⊎_elim, add-one, arith}
+-- Sums and searches over the first n elements of a list, its chunks, and the arrays that `from_fn` makes: what std's words say, place by place.
+use Rattle.std.proofs.Common.{◌≡◌, ℕ, zero, suc, ◌+◌, ◌*◌, ◌<◌, ◌≤◌, Bool, List, [], ◌∷◌, length, get_or, take, drop, sym, refl, ap, ◌∙◌, subst, ⊎_elim, add-one, mul-suc, arith}
 use Rattle.std.proofs.lemmas.Bool.{cases_eq, cases_lt, lt-ltb, le-ltb}
-use Rattle.std.proofs.lemmas.List.{get_or_past, get_or-take, length-take-le}
+use Rattle.std.proofs.lemmas.List.{get_or_past, get_or-take, get_or-drop, length-take-le}
 use Rattle.std.proofs.lemmas.List.Sums.{sum_by_more, fails_before_first, passes_at_first}
 use Rattle.std.specs.Array.{IsFromFnResult, IsFromFnResultFrom}
 use Rattle.std.specs.Fn.{Called, Mut}
 use Rattle.std.specs.List.{AllByRecursion, sum_by, position, position_or_len}
+use Rattle.std.specs.Simd.{first_chunks}
 use Rattle.finite.specs.Sums.{sum}
 use Rattle.finite.specs.Search.{least}
 use Rattle.finite.proofs.Search.{least_none, least_found}
@@ -32,6 +33,13 @@ position_in_first p n xs d l = position_least p (λ i. p (get_or xs i d)) (take 
 pub each_at : {X : Type 0} (P : X → Type 0) (xs : List X) (d : X) → ((i : ℕ) → i < length xs → P (get_or xs i d)) → AllByRecursion P xs
 each_at P [] d h = tt
 each_at P (x ∷ xs) d h = (h 0 (omega arith), each_at P xs d (λ i l. h (suc i) (omega arith)))
+
+-- the element i of the chunk j
+pub chunk_at : {X : Type 0} (n k j i : ℕ) (xs : List X) (d : X) → j < k → i < n → get_or (get_or (first_chunks n k xs) j []) i d ≡ get_or xs (n * j + i) d
+chunk_at n zero j i xs d l h = absurd (omega arith)
+chunk_at n (suc k) zero i xs d l h = get_or-take n xs i d h ∙ ap (λ m. get_or xs m d) (omega arith)
+chunk_at n (suc k) (suc j) i xs d l h =
+    chunk_at n k j i (drop n xs) d (omega arith) h ∙ get_or-drop n xs (n * j + i) d ∙ ap (λ m. get_or xs m d) (omega (arith, mul-suc n j))
 
 -- f is a closure that leaves what it captures as it is, and P holds of each place and what f answers there
 module _ {F B : Type 0} {g : Mut F (ℕ × Unit {0}) B} {f : F} where

@@ -32,25 +32,25 @@ module _ {F G : Type 0} (m : Meaning F) (o : Meaning G) (same : Same m o) where
     numerator = sym same.numerator;
     denominator = sym same.denominator;
     apart = λ s t hs ht. sym (same.apart s t (within hs) (within ht));
-    valid = λ side d s t ws table j words. let (to, from) = same.valid side d s t ws (table_same table) (judged_same j) words in (from, to);
-    shown = λ side d s t ws c table j words. let (to, from) = same.shown side d s t ws c (table_same table) (judged_same j) words in (from, to);
+    valid = λ side d s t ws range table j words. let (to, from) = same.valid side d s t ws range (table_same table) (judged_same j) words in (from, to);
+    shown = λ side d s t ws c range table j words. let (to, from) = same.shown side d s t ws c range (table_same table) (judged_same j) words in (from, to);
   }
 
   -- a table is supported by the one as it is by the other
-  pub supported_same : (d : Distances) → Supported m d → Supported o d
-  supported_same d sup = record {
+  pub supported_same : (d : Distances) → InRange d.top → Supported m d → Supported o d
+  supported_same d range sup = record {
     top_least = sup.top_least;
     bounded = λ s t hs ht. sup.bounded s t (within hs) (within ht);
     apart = λ s t hs ht a. sup.apart s t (within hs) (within ht) (same.apart s t (within hs) (within ht) ∙ a);
-    judged = λ s t j low. let (ws, words, shown) = sup.judged s t (judged_same j) low in (ws, words, (same.shown Upper d s t ws (d.entry s t) (record { top_least = sup.top_least; bounded = sup.bounded }) (judged_same j) words).0 shown);
+    judged = λ s t j low. let (ws, words, shown) = sup.judged s t (judged_same j) low in (ws, words, (same.shown Upper d s t ws (d.entry s t) range (record { top_least = sup.top_least; bounded = sup.bounded }) (judged_same j) words).0 shown);
   }
 
 pub settled_agree : {F G : Type 0} (m : Meaning F) (o : Meaning G) → Lawful m → Lawful o → SettledAgree m o
 settled_agree m o lawful lawful' same K k σ h run J j τ g run' s t jd settled settled' =
     let back = same_sym m o same in
     let jd' = judged_same o m back jd in
-    let one = lower_true m lawful K k σ h run (over J τ.upper) (supported_same o m back _ (upper_supported o lawful' J j τ g run')) s t jd.first_in jd.second_in in
-    let two = lower_true o lawful' J j τ g run' (over K σ.upper) (supported_same m o same _ (upper_supported m lawful K k σ h run)) s t jd'.first_in jd'.second_in in
+    let one = lower_true m lawful K k σ h run (over J τ.upper) (supported_same o m back _ j (upper_supported o lawful' J j τ g run')) s t jd.first_in jd.second_in in
+    let two = lower_true o lawful' J j τ g run' (over K σ.upper) (supported_same m o same _ k (upper_supported m lawful K k σ h run)) s t jd'.first_in jd'.second_in in
     le_antisymm (rw settled at one) (rw settled' at two)
 
 pub agree_where_led : {F G : Type 0} (m : Meaning F) (o : Meaning G) → Lawful m → Lawful o → Same m o

@@ -9,4 +9,5 @@ pub mod Resting
 pub mod Agreement
 pub mod Promises
 pub mod Histories
+pub mod Tellings
 pub mod Lines

@@ -174,7 +174,7 @@ module _ {F : Type 0} (m : Meaning F) (lawful : Lawful m) (K : ℕ) (k : InRange
 
     first_goes : σ.phase ≡ resting → Goes m K σ (draft_calls Upper cert.entry cert.pairing ps qs) mid
     first_goes quiet = draft_goes m lawful K Upper σ cert.entry cert.pairing ps qs (Judged m) quiet lp lq 0 0
-        (record { first_in = lawful.sections_least; second_in = lawful.sections_least; together = lawful.self_judged 0 })
+        (record { first_in = lawful.sections_least; second_in = lawful.sections_least; together = lawful.self_judged 0 lawful.sections_least })
         (λ s t j. record { judged = j; tight = under_upper s t j.first_in j.second_in; top = cert.bounded s t j.first_in j.second_in })
         (λ s t j. (cert.paired s t j).1)
         (λ x y hx hy out. elim (cases_Bool (m.apart x y)) [

@@ -125,7 +125,10 @@ pub record KeepsPromise {F : Type 0} (m : Meaning F) (K : ℕ) (σ : State) : Ty
   pub promise : (h : List (Page F)) → Run m K (fresh m K) h σ → Promise m K σ h
   -- in every state each call has one outcome
   pub outcomes : EachCallHasOneOutcome m K
-  -- what is settled here and in a register of the same chart, though it be a value of another kind, is the same distance,
-  -- whatever its top and its history; other is that chart as its register sees it, and as this one sees its own
+  -- What is settled here and in a register of the same chart, though it be a value of another kind, is the same distance,
+  -- whatever its top and its history: other is that chart as its register sees it. As a register sees its own chart,
+  -- it is lawful and the same chart, and has a history that led to this state; so this holds of every register of the other kind, too.
   pub agrees : (other : Told) → Lawful (meaning_of other) → Same m (meaning_of other) → Always (meaning_of other) (λ J τ g. Agree m K σ J τ)
-  pub told : Same m (meaning_of (told_of m))
+  pub told_lawful : Lawful (meaning_of (told_of m))
+  pub told_same : Same m (meaning_of (told_of m))
+  pub told_history : HasHistory (meaning_of (told_of m)) K σ

@@ -2,8 +2,10 @@
 use Rattle.std.proofs.Common.{◌≡◌, ℕ, zero, suc, ◌+◌, ◌*◌, ◌%◌, ◌<◌, ◌≤◌, Bool, true, cond, List, [], ◌∷◌, length, ℤ, pos, sym, refl, ap, subst, ◌∙◌, ⊎_elim, arith}
 use borrow.Author.Differences.{up}
 use Rattle.std.proofs.lemmas.Bool.{cases_eq, cond_both}
-use Rattle.transitions.specs.System.{System, Sound, Judges, successor}
-use Rattle.transitions.specs.Words.{word, names}
+use Rattle.chart.specs.Bands.{Judges}
+use Rattle.chart.specs.Words.{word}
+use Rattle.transitions.specs.System.{System, Sound, successor}
+use Rattle.transitions.specs.Words.{names}
 use Rattle.transitions.specs.Pairing.{left, right, pairs, Pairing}
 use Rattle.transitions.proofs.Words.{successor_in}
 
@@ -67,7 +69,7 @@ module _ (p : ℕ → Bool) (x y : ℕ → ℕ) (ws : List ℤ) where
       (cases_eq u k)
 
 -- g chooses a successor of t for each of s, and h one of s for each of t
-module _ (c : System) (sound : Sound c) (s t : ℕ) (judged : Judges c s t) (g h : ℕ → ℕ)
+module _ (c : System) (sound : Sound c) (s t : ℕ) (judged : Judges c.n c.band s t) (g h : ℕ → ℕ)
     (first : (u : ℕ) → successor c s u ≡ true → successor c t (g u) ≡ true) (second : (v : ℕ) → successor c t v ≡ true → successor c s (h v) ≡ true) where
   abbrev seconds : List ℤ
   seconds = chosen (successor c t) h (λ v. v) [] c.n

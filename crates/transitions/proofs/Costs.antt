@@ -2,8 +2,8 @@
 use Rattle.std.proofs.Common.{◌≡◌, ℕ, ◌+◌, ◌*◌, ◌<◌, ◌≤◌, Bool, true, false, cond, List, ℤ, subst, sym, le_trans, mul-le-mul_left, mul-le-mul_right, arith}
 use Rattle.finite.proofs.Sums.{term_le_greatest, greatest_is}
 use Rattle.chart.specs.Distances.{Distances}
+use Rattle.chart.specs.Words.{word}
 use Rattle.transitions.specs.System.{System, successor}
-use Rattle.transitions.specs.Words.{word}
 use Rattle.transitions.specs.Pairing.{left, right, pairs, cost, Pairing}
 use Rattle.transitions.proofs.Words.{successor_in, named}
 

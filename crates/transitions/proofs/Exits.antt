@@ -1,14 +1,15 @@
 -- What a weighing answers, check by check.
 use Rattle.std.proofs.Common.{◌≡◌, ℕ, ◌%◌, Bool, true, false, not, ◌&&◌, ◌||◌, eqb, ltb, List, length, ℤ, pos, Some, None, Ok, Err}
-use lib.Signed.{lt_z}
 use Rattle.std.specs.Option.{option_map}
 use Rattle.finite.specs.Search.{least}
 use Rattle.chart.specs.declared.side.Side.TheVariants.{Upper, Lower}
 use Rattle.chart.specs.Distances.{Distances}
+use Rattle.chart.specs.Bands.{unjudged}
+use Rattle.chart.specs.Words.{word, outside}
 use Rattle.transitions.specs.declared.fault.Fault.{Fault}
 use Rattle.transitions.specs.declared.fault.Fault.TheVariants.{Unjudged, PairingCount, NoSuccessor, FirstUnpaired, SecondUnpaired, PotentialsCount, NoSide, NoSection, NoFloor, Below}
-use Rattle.transitions.specs.System.{System, successor, unjudged}
-use Rattle.transitions.specs.Words.{word, names}
+use Rattle.transitions.specs.System.{System, successor}
+use Rattle.transitions.specs.Words.{names}
 use Rattle.transitions.specs.Pairing.{left, right, paired, cost, least_claim, bad_word, pairing_fault}
 use Rattle.transitions.specs.Potentials.{side, section, floor, own, other, facing, greatest_claim, potentials_fault}
 use Rattle.transitions.specs.Meaning.{weighed}
@@ -25,28 +26,28 @@ module _ (c : System) (s t : ℕ) (ws : List ℤ) where
   unpaired_second v = successor c t v && not (paired right ws v)
 
   abbrev pub no_side : Bool
-  no_side = lt_z (word ws 0) (pos 0) || lt_z (pos 1) (word ws 0)
+  no_side = outside (pos 0) (pos 1) (word ws 0)
 
   abbrev pub no_section : Bool
   no_section = not (names c (own (side ws) s t) (word ws 1))
 
   module _ (d : Distances) where
     abbrev pub no_floor : Bool
-    no_floor = lt_z (word ws 2) (pos 0) || lt_z (pos d.top) (word ws 2)
+    no_floor = outside (pos 0) (pos d.top) (word ws 2)
 
     abbrev pub below : ℕ → Bool
     below y = successor c (other (side ws) s t) y && ltb (facing d (side ws) (section ws) y) (floor ws)
 
 module _ (c : System) (d : Distances) (s t : ℕ) (ws : List ℤ) where
-  pub upper_unjudged : unjudged c s t ≡ true → weighed c Upper d s t ws ≡ Err Unjudged
+  pub upper_unjudged : unjudged c.n c.band s t ≡ true → weighed c Upper d s t ws ≡ Err Unjudged
   unfolding pairing_fault
   upper_unjudged j = simp j
 
-  pub lower_unjudged : unjudged c s t ≡ true → weighed c Lower d s t ws ≡ Err Unjudged
+  pub lower_unjudged : unjudged c.n c.band s t ≡ true → weighed c Lower d s t ws ≡ Err Unjudged
   unfolding potentials_fault
   lower_unjudged j = simp j
 
-  module _ (j : unjudged c s t ≡ false) where
+  module _ (j : unjudged c.n c.band s t ≡ false) where
     pub upper_count : uneven c s t ws ≡ true → weighed c Upper d s t ws ≡ Err (PairingCount (length ws))
     unfolding pairing_fault
     upper_count k = simp (j, k)

@@ -1,19 +1,21 @@
 -- The supported tables of a choice chart are those that the discounted Hausdorff operator does not raise.
 use Rattle.std.proofs.Common.{◌≡◌, ℕ, ◌*◌, ◌<◌, ◌≤◌, Bool, true, false, List, ℤ, refl, subst, ⊎_elim, le_trans, mul-le-mul, mul-le-mul_left, arith}
-use Rattle.std.proofs.lemmas.Bool.{cases_lt, eqb-true, not-false}
+use Rattle.std.proofs.lemmas.Bool.{cases_lt}
 use Rattle.std.specs.List.{AllByRecursion}
 use Rattle.chart.specs.declared.side.Side.TheVariants.{Upper}
 use Rattle.chart.specs.Distances.{Distances}
 use Rattle.chart.specs.Meaning.{Shown, Word}
 use Rattle.chart.specs.Same.{IsTable}
-use Rattle.transitions.specs.System.{System, Sound, Judges, successor}
+use Rattle.chart.specs.Bands.{Judges}
+use Rattle.chart.proofs.Bands.{judged_of, judges_of}
+use Rattle.transitions.specs.System.{System, Sound, successor}
 use Rattle.transitions.specs.Pairing.{left, right, pairs, Pairing, PairingShows}
 use Rattle.transitions.specs.Meaning.{means}
 use Rattle.transitions.specs.Hausdorff.{HausdorffAtMost, SupportedIsNotRaised}
 use Rattle.transitions.proofs.Words.{successor_in}
 use Rattle.transitions.proofs.Choices.{choices, choices_pair, choice_is}
 use Rattle.transitions.proofs.Costs.{left_successor, right_successor, entry_le_cost, cost_is}
-use Rattle.transitions.proofs.Laws.{judged_of, pairing_words}
+use Rattle.transitions.proofs.Laws.{pairing_words}
 
 -- what a pairing shows is at least the Hausdorff distance
 module _ (c : System) (s t : ℕ) (ws : List ℤ) (p : Pairing c s t ws) (d : Distances) (claim : ℕ) (shown : PairingShows c d ws claim) where
@@ -41,7 +43,7 @@ picked P false f h e = absurd (cc e)
 
 module _ (c : System) (sound : Sound c) where
   -- where the Hausdorff distance is at most the claim, its choices are a pairing that shows the claim
-  choices_show : (d : Distances) (s t claim : ℕ) → Judges c s t → HausdorffAtMost c d s t claim → (ws : List ℤ) × AllByRecursion Word ws × Shown (means c) Upper d s t ws claim
+  choices_show : (d : Distances) (s t claim : ℕ) → Judges c.n c.band s t → HausdorffAtMost c d s t claim → (ws : List ℤ) × AllByRecursion Word ws × Shown (means c) Upper d s t ws claim
   choices_show d s t claim j low =
       let g : ℕ → ℕ = λ u. pick (successor c s u) (λ e. (low.first u e).0) in
       let h : ℕ → ℕ = λ v. pick (successor c t v) (λ e. (low.second v e).0) in
@@ -63,7 +65,7 @@ module _ (c : System) (sound : Sound c) where
       )
 
   -- no Hausdorff distance is above the top
-  at_top : (d : Distances) (s t : ℕ) → IsTable c.n d → Judges c s t → HausdorffAtMost c d s t d.top
+  at_top : (d : Distances) (s t : ℕ) → IsTable c.n d → Judges c.n c.band s t → HausdorffAtMost c d s t d.top
   at_top d s t table j =
       let small : c.a ≤ c.b = omega (arith, sound.a_most) in
       record {
@@ -76,7 +78,7 @@ module _ (c : System) (sound : Sound c) where
     λ supported. record {
       apart = supported.apart;
       judged = λ s t j. ⊎_elim
-          (λ low. let (ws, _, shown) = supported.judged s t (judged_of c sound s t j) low in distance_shown c s t ws shown.valid d (d.entry s t) shown.shows)
+          (λ low. let (ws, _, shown) = supported.judged s t (judged_of (means c) c.band (λ s t. refl) s t j) low in distance_shown c s t ws shown.valid d (d.entry s t) shown.shows)
           (λ high. let top : d.top ≡ d.entry s t = omega (arith, table.bounded s t j.first_in j.second_in) in subst (HausdorffAtMost c d s t) top (at_top d s t table j))
           (cases_lt (d.entry s t) d.top);
     },
@@ -85,7 +87,7 @@ module _ (c : System) (sound : Sound c) where
       bounded = table.bounded;
       apart = kept.apart;
       judged = λ s t j _.
-          let judges : Judges c s t = record { first_in = j.first_in; second_in = j.second_in; alike = eqb-true _ _ (not-false _ j.together) } in
+          let judges : Judges c.n c.band s t = judges_of (means c) c.band (λ s t. refl) s t j in
           choices_show d s t (d.entry s t) judges (kept.judged s t judges);
     },
   )

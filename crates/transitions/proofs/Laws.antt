@@ -1,25 +1,26 @@
 -- Choice charts keep every law of a kind.
 use Rattle.std.proofs.Common.{◌≡◌, ℕ, ◌+◌, ◌*◌, ◌%◌, ◌<◌, ◌≤◌, cond, eqb, true, List, length, ℤ, pos, Some, None, Err, Option, sym, refl, ap, ◌∙◌, le_trans, mul-le-mul_left, arith}
-use Rattle.std.proofs.lemmas.Bool.{true_from_ne_false, eq-eqb, not_from_true}
 use Rattle.std.specs.List.{AllByRecursion}
 use Rattle.finite.proofs.Lists.{each_at}
 use Rattle.chart.specs.declared.side.Side.{Side}
 use Rattle.chart.specs.declared.side.Side.TheVariants.{Upper, Lower}
 use Rattle.chart.specs.Distances.{Distances}
-use Rattle.chart.specs.Weighing.{Weaker, Weighs}
-use Rattle.chart.specs.Meaning.{Judged, Shown, Word}
+use Rattle.chart.specs.Weighing.{Weaker, Weighs, answer}
+use Rattle.chart.specs.Meaning.{Shown, Word}
 use Rattle.chart.specs.Laws.{Tighter, Within, Lawful}
+use Rattle.chart.specs.Bands.{Judges, unjudged}
+use Rattle.chart.specs.Words.{word}
+use Rattle.chart.proofs.Bands.{parted_self, is_unjudged}
 use Rattle.chart.proofs.Claims.{least_shown, greatest_shown}
 use Rattle.transitions.specs.declared.fault.Fault.{Fault}
 use Rattle.transitions.specs.declared.fault.Fault.TheVariants.{Unjudged}
-use Rattle.transitions.specs.System.{System, Sound, Judges, unjudged}
-use Rattle.transitions.specs.Words.{word}
+use Rattle.transitions.specs.System.{System, Sound}
 use Rattle.transitions.specs.Pairing.{left, right, cost, Pairing, PairingShows, pairing_fault, least_claim}
 use Rattle.transitions.specs.Potentials.{side, section, floor, own, Potentials, PotentialsShow, potentials_fault, greatest_claim}
-use Rattle.transitions.specs.Meaning.{Valid, Shows, answer, weighed, means}
+use Rattle.transitions.specs.Meaning.{Valid, Shows, weighed, means}
 use Rattle.transitions.proofs.Words.{successor_in, named, named_word}
 use Rattle.transitions.proofs.Exits.{upper_unjudged, lower_unjudged}
-use Rattle.transitions.proofs.Valid.{judges_from, pairing_from, pairing_to, each_named, potentials_from, potentials_to}
+use Rattle.transitions.proofs.Valid.{pairing_from, pairing_to, each_named, potentials_from, potentials_to}
 use Rattle.transitions.proofs.Choices.{choices, choices_pair, choice_is}
 use Rattle.transitions.proofs.Costs.{left_successor, right_successor, entry_le_cost, cost_is, cost_le, floor_met, facing_le, crossed}
 
@@ -37,15 +38,9 @@ module _ (c : System) (sound : Sound c) where
     by (Some f) e = λ v. cc (sym (potentials_to c d s t ws v) ∙ e)
     by None e = (potentials_from c d s t ws e, greatest_shown c.a c.b some (floor ws))
 
-  pub judged_of : (s t : ℕ) → Judges c s t → Judged (means c) s t
-  judged_of s t j = record { first_in = j.first_in; second_in = j.second_in; together = not_from_true _ (eq-eqb _ _ j.alike) }
-
-  outside_first : (side : Side) (d : Distances) (s t : ℕ) (ws : List ℤ) → unjudged c s t ≡ true → weighed c side d s t ws ≡ Err Unjudged
+  outside_first : (side : Side) (d : Distances) (s t : ℕ) (ws : List ℤ) → unjudged c.n c.band s t ≡ true → weighed c side d s t ws ≡ Err Unjudged
   outside_first Upper = upper_unjudged c
   outside_first Lower = lower_unjudged c
-
-  is_unjudged : (s t : ℕ) → (Judged (means c) s t → ⊥) → unjudged c s t ≡ true
-  is_unjudged s t h = true_from_ne_false (unjudged c s t) (λ e. h (judged_of s t (judges_from c s t e)))
 
   pub pairing_words : (s t : ℕ) (ws : List ℤ) → Pairing c s t ws → AllByRecursion Word ws
   pairing_words s t ws v = each_at Word ws (pos 0) (λ i l. named_word c (cond (eqb (i % 2) 0) s t) (word ws i) (each_named c s t ws v i l) sound)
@@ -57,7 +52,7 @@ module _ (c : System) (sound : Sound c) where
   -- each successor is its own partner
   self_paired : (s : ℕ) → s < c.n → (ws : List ℤ) × AllByRecursion Word ws × ((d : Distances) → ((x : ℕ) → x < c.n → d.entry x x ≡ 0) → Shown (means c) Upper d s s ws 0)
   self_paired s l =
-      let j : Judges c s s = record { first_in = l; second_in = l; alike = refl } in
+      let j : Judges c.n c.band s s = record { first_in = l; second_in = l; alike = refl } in
       let ws = choices c sound s s j (λ u. u) (λ v. v) (λ u h. h) (λ v h. h) in
       let valid = choices_pair c sound s s j (λ u. u) (λ v. v) (λ u h. h) (λ v h. h) in (
         ws,
@@ -111,10 +106,10 @@ module _ (c : System) (sound : Sound c) where
     denominator_most = sound.b_most;
     longest_most = omega arith;
     weighs = weighs;
-    unjudged = λ side d s t ws h. (Unjudged, outside_first side d s t ws (is_unjudged s t h), refl);
+    unjudged = λ side d s t ws h. (Unjudged, outside_first side d s t ws (is_unjudged (means c) c.band (λ s t. refl) s t h), refl);
     words = λ d s t ws v. pairing_words s t ws v;
     short = short;
-    self_judged = λ s. not_from_true _ (eq-eqb (c.band s) (c.band s) refl);
+    self_judged = λ s l. parted_self c.band s;
     self_paired = self_paired;
     closed = closed;
     monotone = monotone;

@@ -5,3 +5,4 @@ pub mod Choices
 pub mod Costs
 pub mod Laws
 pub mod Hausdorff
+pub mod Registers

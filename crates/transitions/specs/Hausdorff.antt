@@ -3,7 +3,8 @@ use Rattle.std.specs.Prelude.{◌≡◌, ℕ, ◌*◌, ◌<◌, ◌≤◌, ◌�
 use Rattle.chart.specs.Distances.{Distances}
 use Rattle.chart.specs.Same.{IsTable}
 use Rattle.chart.specs.Supported.{Supported}
-use Rattle.transitions.specs.System.{System, Judges, parted, successor}
+use Rattle.chart.specs.Bands.{Judges, parted}
+use Rattle.transitions.specs.System.{System, successor}
 use Rattle.transitions.specs.Meaning.{means}
 
 -- The discounted Hausdorff distance of the successors of s and t is at most the claim: each successor of the one section
@@ -12,10 +13,10 @@ pub record HausdorffAtMost (c : System) (d : Distances) (s t claim : ℕ) : Type
   pub first : (u : ℕ) → successor c s u ≡ true → (v : ℕ) × (successor c t v ≡ true) × (c.a * d.entry u v ≤ c.b * claim)
   pub second : (v : ℕ) → successor c t v ≡ true → (u : ℕ) × (successor c s u ≡ true) × (c.a * d.entry u v ≤ c.b * claim)
 
--- The operator takes a table to 1 at apart pairs, and at a judged pair to that distance. It does not raise the table.
+-- The operator takes a table to its top at apart pairs, and at a judged pair to that distance. It does not raise the table.
 pub record NotRaised (c : System) (d : Distances) : Type 0 where
-  pub apart : (s t : ℕ) → s < c.n → t < c.n → parted c s t ≡ true → d.entry s t ≡ d.top
-  pub judged : (s t : ℕ) → Judges c s t → HausdorffAtMost c d s t (d.entry s t)
+  pub apart : (s t : ℕ) → s < c.n → t < c.n → parted c.band s t ≡ true → d.entry s t ≡ d.top
+  pub judged : (s t : ℕ) → Judges c.n c.band s t → HausdorffAtMost c d s t (d.entry s t)
 
 -- the supported tables are just those that the operator does not raise
 abbrev pub SupportedIsNotRaised : System → Type 0

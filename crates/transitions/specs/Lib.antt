@@ -6,3 +6,4 @@ pub mod Faults
 pub mod Lines
 pub mod Meaning
 pub mod Hausdorff
+pub mod Registers

@@ -5,10 +5,12 @@ use Rattle.std.specs.Option.{option_map}
 use Rattle.finite.specs.Sums.{greatest}
 use Rattle.finite.specs.Search.{given, first_of, least}
 use Rattle.chart.specs.Distances.{Distances}
+use Rattle.chart.specs.Bands.{Judges, unjudged}
+use Rattle.chart.specs.Words.{word}
 use Rattle.transitions.specs.declared.fault.Fault.{Fault}
 use Rattle.transitions.specs.declared.fault.Fault.TheVariants.{Unjudged, PairingCount, NoSuccessor, FirstUnpaired, SecondUnpaired}
-use Rattle.transitions.specs.System.{System, Judges, successor, unjudged}
-use Rattle.transitions.specs.Words.{word, names}
+use Rattle.transitions.specs.System.{System, successor}
+use Rattle.transitions.specs.Words.{names}
 
 -- the pair j, where its words are natural numbers
 abbrev pub left : List ℤ → ℕ → ℕ
@@ -30,7 +32,7 @@ paired side ws x = is_some (least (pairs ws) (λ j. side ws j == x))
 
 -- a valid pairing: it pairs successors, and each of them
 pub record Pairing (c : System) (s t : ℕ) (ws : List ℤ) : Type 0 where
-  pub judged : Judges c s t
+  pub judged : Judges c.n c.band s t
   pub twos : length ws % 2 ≡ 0
   pub few : length ws ≤ 2048
   pub left_names : (j : ℕ) → j < pairs ws → names c s (word ws (2 * j)) ≡ true
@@ -53,7 +55,7 @@ bad_word c s t ws i = not (names c (cond (i % 2 == 0) s t) (word ws i))
 -- the first check that fails, if one does
 unfoldable pub pairing_fault : System → ℕ → ℕ → List ℤ → Option Fault
 pairing_fault c s t ws = first_of (
-    given (unjudged c s t) Unjudged
+    given (unjudged c.n c.band s t) Unjudged
     ∷ given (not (length ws % 2 == 0) || nat_lt 2048 (length ws)) (PairingCount (length ws))
     ∷ option_map NoSuccessor (least (length ws) (bad_word c s t ws))
     ∷ option_map FirstUnpaired (least c.n (λ u. successor c s u && not (paired left ws u)))

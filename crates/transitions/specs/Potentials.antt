@@ -1,14 +1,16 @@
 -- Potentials: three words, a side, a section and a floor. They name a successor of one of the two sections,
 -- and a floor under its distance from every successor of the other.
-use Rattle.std.specs.Prelude.{◌≡◌, ℕ, ◌*◌, ◌/◌, ◌<◌, ◌≤◌, Bool, true, cond, not, ◌&&◌, ◌||◌, ◌⊎◌, List, [], ◌∷◌, length, ℤ, pos, ◌≤ℤ◌, Option, ◌==◌, int_lt, nat_lt}
+use Rattle.std.specs.Prelude.{◌≡◌, ℕ, ◌*◌, ◌/◌, ◌≤◌, true, cond, not, ◌&&◌, ◌⊎◌, List, [], ◌∷◌, length, ℤ, pos, Option, ◌==◌, nat_lt}
 use borrow.Author.Differences.{up}
 use Rattle.std.specs.Option.{option_map}
 use Rattle.finite.specs.Search.{given, first_of, least}
 use Rattle.chart.specs.Distances.{Distances}
+use Rattle.chart.specs.Bands.{Judges, unjudged}
+use Rattle.chart.specs.Words.{word, Between, outside}
 use Rattle.transitions.specs.declared.fault.Fault.{Fault}
 use Rattle.transitions.specs.declared.fault.Fault.TheVariants.{Unjudged, PotentialsCount, NoSide, NoSection, NoFloor, Below}
-use Rattle.transitions.specs.System.{System, Judges, successor, unjudged}
-use Rattle.transitions.specs.Words.{word, names}
+use Rattle.transitions.specs.System.{System, successor}
+use Rattle.transitions.specs.Words.{names}
 
 -- the words, where they are natural numbers
 abbrev pub side : List ℤ → ℕ
@@ -33,11 +35,11 @@ facing d i x y = cond (i == 0) (d.entry x y) (d.entry y x)
 
 -- valid potentials
 pub record Potentials (c : System) (d : Distances) (s t : ℕ) (ws : List ℤ) : Type 0 where
-  pub judged : Judges c s t
+  pub judged : Judges c.n c.band s t
   pub count : length ws ≡ 3
   pub side_word : (word ws 0 ≡ pos 0) ⊎ (word ws 0 ≡ pos 1)
   pub section_word : names c (own (side ws) s t) (word ws 1) ≡ true
-  pub floor_word : (pos 0 ≤ℤ word ws 2) × (word ws 2 ≤ℤ pos d.top)
+  pub floor_word : Between (pos 0) (pos d.top) (word ws 2)
   pub under : (y : ℕ) → successor c (other (side ws) s t) y ≡ true → floor ws ≤ facing d (side ws) (section ws) y
 
 -- they show each claim that is at most the discounted floor, (a / b) × f
@@ -51,10 +53,10 @@ greatest_claim c f = c.a * f / c.b
 -- the first check that fails, if one does
 unfoldable pub potentials_fault : System → Distances → ℕ → ℕ → List ℤ → Option Fault
 potentials_fault c d s t ws = first_of (
-    given (unjudged c s t) Unjudged
+    given (unjudged c.n c.band s t) Unjudged
     ∷ given (not (length ws == 3)) (PotentialsCount (length ws))
-    ∷ given (int_lt (word ws 0) (pos 0) || int_lt (pos 1) (word ws 0)) NoSide
+    ∷ given (outside (pos 0) (pos 1) (word ws 0)) NoSide
     ∷ given (not (names c (own (side ws) s t) (word ws 1))) NoSection
-    ∷ given (int_lt (word ws 2) (pos 0) || int_lt (pos d.top) (word ws 2)) NoFloor
+    ∷ given (outside (pos 0) (pos d.top) (word ws 2)) NoFloor
     ∷ option_map Below (least c.n (λ y. successor c (other (side ws) s t) y && nat_lt (facing d (side ws) (section ws) y) (floor ws)))
     ∷ [])

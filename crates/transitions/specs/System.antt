@@ -1,6 +1,6 @@
 -- A choice chart: from each section a candidate goes on to one of a non-empty set of sections, by choice and not by chance.
 -- It is a finite transition system with a band for each of its states, and a discount.
-use Rattle.std.specs.Prelude.{◌≡◌, ℕ, ◌<◌, ◌≤◌, Bool, true, not, ◌&&◌, ◌||◌, ◌==◌, nat_lt}
+use Rattle.std.specs.Prelude.{◌≡◌, ℕ, ◌<◌, ◌≤◌, Bool, true, ◌&&◌, nat_lt}
 
 pub record System : Type 0 where
   pub n : ℕ  -- the sections are the numbers below n
@@ -20,16 +20,3 @@ pub record Sound (c : System) : Type 0 where
   pub a_most : c.a < c.b
   pub b_most : c.b ≤ 1000
   pub goes_on : (s : ℕ) → s < c.n → (u : ℕ) × (successor c s u ≡ true)
-
--- two sections are apart if their bands differ
-abbrev pub parted : System → ℕ → ℕ → Bool
-parted c s t = not (c.band s == c.band t)
-
--- two sections of one band
-pub record Judges (c : System) (s t : ℕ) : Type 0 where
-  pub first_in : s < c.n
-  pub second_in : t < c.n
-  pub alike : c.band s ≡ c.band t
-
-abbrev pub unjudged : System → ℕ → ℕ → Bool
-unjudged c s t = not (nat_lt s c.n) || (not (nat_lt t c.n) || parted c s t)

@@ -1,9 +1,6 @@
--- The words of a showing.
-use Rattle.std.specs.Prelude.{ℕ, Bool, false, List, ℤ, pos, negsuc, slice_index_or}
+-- Words that name successors.
+use Rattle.std.specs.Prelude.{ℕ, Bool, false, ℤ, pos, negsuc}
 use Rattle.transitions.specs.System.{System, successor}
-
-abbrev pub word : List ℤ → ℕ → ℤ
-word ws i = slice_index_or ws i (pos 0)
 
 -- the word is the number of a successor of s
 abbrev pub names : System → ℕ → ℤ → Bool

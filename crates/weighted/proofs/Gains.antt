@@ -4,8 +4,8 @@ use borrow.Author.Differences.{ints}
 use Rattle.finite.specs.Sums.{sum, sumℤ}
 use Rattle.finite.proofs.Sums.{sum_mul_right}
 use Rattle.chart.specs.Distances.{Distances}
+use Rattle.chart.specs.Words.{word}
 use Rattle.chain.specs.Chain.{Chain, Sound}
-use Rattle.chain.specs.Words.{word}
 use Rattle.chain.specs.Potentials.{alpha, beta, gain, Potentials}
 use Rattle.weighted.proofs.Near.{Near, near_product, near_sum}
 

@@ -1,22 +1,13 @@
 -- The triples of a pairing, one after another.
-use Rattle.std.proofs.Common.{◌≡◌, ℕ, zero, suc, ◌+◌, ◌-◌, ◌*◌, ◌%◌, ◌<◌, ◌≤◌, false, List, [], length, get_or, drop, ℤ, Some, None, Option, refl, ap, ◌∙◌, ⊎_elim, mul-suc, arith}
+use Rattle.std.proofs.Common.{◌≡◌, ℕ, ◌+◌, ◌-◌, ◌*◌, ◌%◌, ◌<◌, ◌≤◌, false, List, length, ℤ, Some, None, Option, refl, ◌∙◌, ⊎_elim, arith}
 use Rattle.std.specs.Option.{option_map}
-use Rattle.std.specs.Simd.{first_chunks}
-use Rattle.std.proofs.lemmas.List.{get_or-take, get_or-drop}
 use Rattle.std.proofs.lemmas.Bool.{cases_lt}
 use Rattle.finite.specs.Search.{least}
 use Rattle.finite.proofs.Search.{least_none_at, least_found, least_at}
+use Rattle.chart.specs.Words.{word}
 use Rattle.chain.specs.declared.fault.Fault.{Fault}
 use Rattle.chain.specs.Chain.{Chain}
-use Rattle.chain.specs.Words.{word}
 use Rattle.chain.specs.Pairing.{triples, bad_word, word_fault}
-
--- the element i of the chunk j
-pub chunk_at : {X : Type 0} (n k j i : ℕ) (xs : List X) (d : X) → j < k → i < n → get_or (get_or (first_chunks n k xs) j []) i d ≡ get_or xs (n * j + i) d
-chunk_at n zero j i xs d l h = absurd (omega arith)
-chunk_at n (suc k) zero i xs d l h = get_or-take n xs i d h ∙ ap (λ m. get_or xs m d) (omega arith)
-chunk_at n (suc k) (suc j) i xs d l h =
-    chunk_at n k j i (drop n xs) d (omega arith) h ∙ get_or-drop n xs (n * j + i) d ∙ ap (λ m. get_or xs m d) (omega (arith, mul-suc n j))
 
 -- no word before the triple j is bad
 abbrev pub Clear : Chain → List ℤ → ℕ → Type 0

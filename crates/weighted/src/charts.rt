@@ -4,11 +4,11 @@ ghost use Rattle.weighted.specs.Rows.{entry_at};
 
 use chart::table::SECTIONS;
 
-mod file;
 pub mod kind;
 mod pairing;
 mod potentials;
 mod reading;
+mod rows;
 
 /// The most words of a showing.
 const LONGEST: usize = 3072;

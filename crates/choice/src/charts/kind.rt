@@ -2,6 +2,7 @@ ghost use Rattle.std.specs.Prelude.{◌≡◌, slice_index};
 ghost use Rattle.chart.specs.Tables.{distances};
 ghost use Rattle.transitions.specs.Meaning.{means, weighed};
 ghost use Rattle.transitions.specs.Hausdorff.{SupportedIsNotRaised};
+ghost use Rattle.transitions.specs.Registers.{RegistersBound, SettledIsDistance};
 ghost use Rattle.transitions.proofs.Laws;
 ghost use Rattle.choice.specs.View.{system};
 ghost use Rattle.choice.specs.Soundness.{sound};
@@ -55,6 +56,8 @@ impl Chart for Choice {
     ) -> Result<u32, Fault>
         ensures answer { result ≡ weighed (system self.now) side (distances table.now) s t words.now }
         ensures supported { SupportedIsNotRaised (system self.now) }
+        ensures bounds { RegistersBound (system self.now) }
+        ensures settled { SettledIsDistance (system self.now) }
     {
         match side {
             Side::Upper => self.weigh_pairing(table, s, t, words),

@@ -3,9 +3,10 @@ ghost use Rattle.std.specs.Option.{option_map};
 ghost use Rattle.finite.specs.Search.{least};
 ghost use Rattle.chart.specs.Tables.{distances};
 ghost use Rattle.chart.specs.declared.side.Side.TheVariants.{Upper};
+ghost use Rattle.chart.specs.Bands.{unjudged};
 ghost use Rattle.transitions.specs.declared.fault.Fault.TheVariants.{NoSuccessor};
 ghost use Rattle.transitions.specs.Words.{names};
-ghost use Rattle.transitions.specs.System.{successor, unjudged};
+ghost use Rattle.transitions.specs.System.{successor};
 ghost use Rattle.transitions.specs.Pairing.{bad_word, least_claim};
 ghost use Rattle.transitions.specs.Meaning.{weighed};
 ghost use Rattle.choice.specs.View.{system};
@@ -34,7 +35,7 @@ impl Choice {
     /// Whether `(s, t)` is no judged pair.
     // Not the trait's `judges`, since the weighings that the trait calls would then call the trait.
     pub(super) fn is_unjudged(&self, s: usize, t: usize) -> bool
-        ensures { result ≡ unjudged (system self.now) s t }
+        ensures { result ≡ unjudged self.now.n (slice_index self.now.bands) s t }
     {
         s >= self.n || t >= self.n || self.bands[s] != self.bands[t]
     }

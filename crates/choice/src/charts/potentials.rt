@@ -1,6 +1,7 @@
-ghost use Rattle.std.specs.Prelude.{◌≡◌, ◌≤◌, true, ◌&&◌, ◌||◌, pos, MatchOption, nat_lt, int_lt};
+ghost use Rattle.std.specs.Prelude.{◌≡◌, ◌≤◌, true, ◌&&◌, pos, MatchOption, nat_lt};
 ghost use Rattle.finite.specs.Search.{least};
 ghost use Rattle.chart.specs.Tables.{distances};
+ghost use Rattle.chart.specs.Words.{outside};
 ghost use Rattle.chart.specs.declared.side.Side.TheVariants.{Lower};
 ghost use Rattle.transitions.specs.System.{successor};
 ghost use Rattle.transitions.specs.Potentials.{own, other, facing, greatest_claim};
@@ -22,7 +23,7 @@ enum PairSide {
 impl PairSide {
     /// The side that a word tells.
     fn new(word: i32) -> Option<PairSide>
-        ensures { MatchOption result ((int_lt word (pos 0) || int_lt (pos 1) word) ≡ true) (λ side. word ≡ pos (number side)) }
+        ensures { MatchOption result (outside (pos 0) (pos 1) word ≡ true) (λ side. word ≡ pos (number side)) }
     {
         match word {
             0 => Some(PairSide::First),
@@ -54,7 +55,7 @@ impl PairSide {
 
 /// The floor that a word tells, if it is from 0 to the top.
 fn read_floor(word: i32, top: u32) -> Option<u32>
-    ensures { MatchOption result ((int_lt word (pos 0) || int_lt (pos top) word) ≡ true) (λ floor. (word ≡ pos floor) × (floor ≤ top)) }
+    ensures { MatchOption result (outside (pos 0) (pos top) word ≡ true) (λ floor. (word ≡ pos floor) × (floor ≤ top)) }
 {
     u32::try_from(word).ok().filter(|floor| *floor <= top)
 }

@@ -3,8 +3,10 @@ ghost use Rattle.choice.specs.View.{system};
 ghost use Rattle.choice.specs.Reading.{system_in, read_answer, fresh_system};
 
 use crate::charts::Choice;
-use crate::charts::file::ChartFile;
+use crate::charts::masks::{find_mask, read_masks};
 use chart::table::SECTIONS;
+use files::file::ChartFile;
+use files::kind::Kind;
 use files::refusal::ReadRefusal;
 
 impl Choice {
@@ -28,10 +30,10 @@ impl Choice {
         ensures answer { result ≡ read_answer bytes.now }
         ensures chart { MatchResult result (λ _. system self.new ≡ system_in bytes.now) (λ _. self.new ≡ self.old) }
     {
-        let file = ChartFile::new(bytes)?;
+        let file = ChartFile::new(bytes, Kind::Choice)?;
         let header = file.header;
-        let masks = file.masks();
-        if let Some(s) = file.find_mask(&masks) {
+        let masks = read_masks(&file);
+        if let Some(s) = find_mask(&file, &masks) {
             return Err(ReadRefusal::Mask(s));
         }
         *self = Choice {

@@ -2,7 +2,7 @@ ghost use Rattle.std.specs.Prelude.{◌≡◌};
 ghost use Rattle.chart.specs.Starting.{start_table};
 ghost use Rattle.history.specs.Calls.{Ask as Asks};
 ghost use Rattle.history.specs.Rules.{Step, fresh, over, side_of, verdict_of};
-ghost use Rattle.history.specs.Promises.{KeepsPromise, SettledAgree};
+ghost use Rattle.history.specs.Promises.{KeepsPromise};
 ghost use Rattle.register.specs.Calls.{asked};
 ghost use Rattle.register.specs.Held.{chart_of, held, top_of};
 
@@ -58,7 +58,6 @@ impl<C: Chart> Register<C> {
     pub fn ask(&self, s: usize, t: usize) -> Result<(u32, u32, Verdict), Refusal<C::Fault>>
         ensures rule { Step (C.Chart.meaning (chart_of self.now)) (top_of self.now) (held self.now) (Asks s t) (asked result) (held self.now) }
         ensures promise { KeepsPromise (C.Chart.meaning (chart_of self.now)) (top_of self.now) (held self.now) }
-        ensures agrees { (other : C) → SettledAgree (C.Chart.meaning (chart_of self.now)) (C.Chart.meaning other) }
     {
         if !self.contents.chart.has_both(s, t) {
             return Err(Refusal::AskOutside);

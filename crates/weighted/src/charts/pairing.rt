@@ -3,9 +3,9 @@ ghost use Rattle.std.specs.Option.{option_map};
 ghost use Rattle.finite.specs.Search.{least};
 ghost use Rattle.chart.specs.Tables.{distances};
 ghost use Rattle.chart.specs.declared.side.Side.TheVariants.{Upper};
+ghost use Rattle.chart.specs.Words.{outside};
+ghost use Rattle.chart.specs.Bands.{unjudged};
 ghost use Rattle.chain.specs.declared.fault.Fault.TheVariants.{Section as NoSection, Amount as NoAmount};
-ghost use Rattle.chain.specs.Words.{outside};
-ghost use Rattle.chain.specs.Chain.{unjudged};
 ghost use Rattle.chain.specs.Pairing.{bad_word, word_fault, least_claim};
 ghost use Rattle.chain.specs.Meaning.{weighed};
 ghost use Rattle.weighted.specs.View.{chain};
@@ -51,7 +51,7 @@ impl Weighted {
     /// Whether `(s, t)` is no judged pair.
     // Not the trait's `judges`: tried, and refused, since the weighings that the trait calls would then call the trait.
     pub(super) fn is_unjudged(&self, s: usize, t: usize) -> bool
-        ensures { result ≡ unjudged (chain self.now) s t }
+        ensures { result ≡ unjudged self.now.n (slice_index self.now.bands) s t }
     {
         s >= self.n || t >= self.n || self.bands[s] != self.bands[t]
     }

@@ -4,8 +4,10 @@ ghost use Rattle.weighted.specs.View.{chain};
 ghost use Rattle.weighted.specs.Reading.{chain_in, read_answer, fresh_chain};
 
 use crate::charts::Weighted;
-use crate::charts::file::ChartFile;
+use crate::charts::rows::{find_row, read_rows};
 use chart::table::SECTIONS;
+use files::file::ChartFile;
+use files::kind::Kind;
 use files::refusal::ReadRefusal;
 
 impl Weighted {
@@ -33,10 +35,10 @@ impl Weighted {
         ensures settled { SettledIsDistance (chain self.new) }
         ensures between { EntriesBoundDistance (chain self.new) }
     {
-        let file = ChartFile::new(bytes)?;
+        let file = ChartFile::new(bytes, Kind::Weighted)?;
         let header = file.header;
-        let rows = file.rows();
-        if let Some(s) = file.find_row(&rows) {
+        let rows = read_rows(&file);
+        if let Some(s) = find_row(&file, &rows) {
             return Err(ReadRefusal::Row(s));
         }
         *self = Weighted {

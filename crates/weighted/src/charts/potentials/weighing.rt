@@ -3,7 +3,7 @@ ghost use Rattle.finite.specs.Sums.{sumℤ};
 ghost use Rattle.finite.specs.Search.{least};
 ghost use Rattle.chart.specs.Tables.{distances};
 ghost use Rattle.chart.specs.declared.side.Side.TheVariants.{Lower};
-ghost use Rattle.chain.specs.Words.{word, outside};
+ghost use Rattle.chart.specs.Words.{word, outside};
 ghost use Rattle.chain.specs.Potentials.{above, gain, greatest_claim};
 ghost use Rattle.chain.specs.Meaning.{weighed};
 ghost use Rattle.weighted.specs.View.{chain};

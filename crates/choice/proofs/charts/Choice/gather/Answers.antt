@@ -2,8 +2,9 @@ use Rattle.std.proofs.Common.{◌≡◌, ◌+◌, ◌*◌, ◌<◌, true, pos, s
 use borrow.Author.Differences.{up}
 use Rattle.std.proofs.lemmas.Option.{MatchOption-at_none, MatchOption-at_some}
 use Rattle.std.proofs.lemmas.Result.{err_from_is_err_and}
+use Rattle.chart.specs.Words.{word}
 use Rattle.transitions.specs.declared.fault.Fault.TheVariants.{NoSuccessor}
-use Rattle.transitions.specs.Words.{word, names}
+use Rattle.transitions.specs.Words.{names}
 use Rattle.transitions.specs.Pairing.{left, right, pairs}
 use Rattle.transitions.proofs.Words.{successor_in}
 use Rattle.choice.specs.View.{system}

@@ -3,7 +3,7 @@ use Rattle.std.proofs.lemmas.Bool.Decides.{nat_tests}
 use Rattle.finite.specs.Search.{least}
 use Rattle.finite.proofs.Search.{least_none_at, least_same}
 use Rattle.files.specs.declared.header.Header.{Header}
-use Rattle.files.specs.declared.kind.Kind.TheVariants.{Choice as choice_kind}
+use Rattle.files.specs.declared.kind.Kind.{Kind}
 use Rattle.files.specs.Format.{sections_field}
 use Rattle.files.specs.Reading.{Fits}
 use Rattle.choice.specs.View.{marks}
@@ -11,34 +11,34 @@ use Rattle.choice.specs.Reading.{mask_in, mask_allowed}
 use Rattle.choice.proofs.charts.Choice.read.Goals as goal
 
 -- the first mask that is not allowed, as the file has it
-same_masks : {bs : List ℕ} {h : Header} (masks : List ℕ) → Fits choice_kind bs h → ((s : ℕ) → get_or masks s 0 ≡ mask_in bs s)
+same_masks : {kind : Kind} {bs : List ℕ} {h : Header} (masks : List ℕ) → Fits kind bs h → ((s : ℕ) → get_or masks s 0 ≡ mask_in bs s)
     → least (sections_field bs) (λ s. not (mask_allowed (sections_field bs) (mask_in bs s))) ≡ least h.sections (λ s. not (mask_allowed h.sections (get_or masks s 0)))
-same_masks {bs} masks fits same =
+same_masks {kind} {bs} masks fits same =
     let n = sections_field bs in
     rw fits.sections_is (least_same n _ _ (λ s l. ap (λ mask. not (mask_allowed n mask)) (sym (same s))))
 
 pub returns-in-Some-clause-answer : goal.returns-in-Some-clause-answer
 returns-in-Some-clause-answer c =
     let file = c.in_ok-file in
-    rw (← file.ensures.answer, ← file.ensures.bytes, same_masks c.masks-masks.result file.file.fits c.masks-masks.ensures, ← c.in-Some.ensures) refl
+    rw (← file.ensures.answer, ← file.ensures.bytes, same_masks c.read_masks-masks.result file.file.fits c.read_masks-masks.ensures, ← c.in-Some.ensures) refl
 
 pub invariant_of-self-clause-goes_on : goal.invariant_of-self-clause-goes_on
 invariant_of-self-clause-goes_on c s l =
     let h = c.in_ok-file.file.header in
-    let allowed = least_none_at h.sections (λ s. not (mask_allowed h.sections (get_or c.masks-masks.result s 0))) (sym c.in_default.ensures) s l in
+    let allowed = least_none_at h.sections (λ s. not (mask_allowed h.sections (get_or c.read_masks-masks.result s 0))) (sym c.in_default.ensures) s l in
     grind (arith, nat_tests)
 
 pub invariant_of-self-clause-within : goal.invariant_of-self-clause-within
 invariant_of-self-clause-within c s l =
     let h = c.in_ok-file.file.header in
-    let allowed = least_none_at h.sections (λ s. not (mask_allowed h.sections (get_or c.masks-masks.result s 0))) (sym c.in_default.ensures) s l in
+    let allowed = least_none_at h.sections (λ s. not (mask_allowed h.sections (get_or c.read_masks-masks.result s 0))) (sym c.in_default.ensures) s l in
     grind (arith, nat_tests)
 
 pub returns-clause-answer : goal.returns-clause-answer
 returns-clause-answer c =
     let file = c.in_ok-file in
     let fits = file.file.fits in
-    rw (← file.ensures.answer, ← file.ensures.bytes, same_masks c.masks-masks.result fits c.masks-masks.ensures, ← c.in_default.ensures) (ap Ok fits.sections_is)
+    rw (← file.ensures.answer, ← file.ensures.bytes, same_masks c.read_masks-masks.result fits c.read_masks-masks.ensures, ← c.in_default.ensures) (ap Ok fits.sections_is)
 
 pub returns-clause-chart : goal.returns-clause-chart
 returns-clause-chart c =
@@ -48,5 +48,5 @@ returns-clause-chart c =
       a = fits.numerator_is i;
       b = fits.denominator_is i;
       band = λ s. c.bands.ensures s i;
-      leads = λ s u. marks (c.masks-masks.ensures s i) u;
+      leads = λ s u. marks (c.read_masks-masks.ensures s i) u;
     })

@@ -1,5 +1,5 @@
 use Rattle.std.proofs.Common.{◌*◌, ◌∙◌, arith}
-use Rattle.choice.proofs.Quotients.{ceil_is}
+use Rattle.finite.proofs.Quotients.{ceil_is}
 use Rattle.choice.proofs.charts.Choice.round_up.Goals as goal
 
 pub returns : goal.returns

@@ -5,8 +5,8 @@ use Rattle.std.proofs.lemmas.Option.{MatchOption-at_none, MatchOption-at_some}
 use Rattle.std.proofs.lemmas.Result.{err_from_is_err_and}
 use Rattle.std.proofs.lemmas.Bool.Decides.{nat_tests}
 use Rattle.chart.specs.Tables.{distances}
+use Rattle.chart.specs.Words.{word}
 use Rattle.transitions.specs.declared.fault.Fault.TheVariants.{NoSide, NoSection, NoFloor}
-use Rattle.transitions.specs.Words.{word}
 use Rattle.transitions.proofs.Exits.{lower_unjudged, lower_count, lower_side}
 use Rattle.choice.proofs.Told.{section_fault, floor_fault, below_fault, valid}
 use Rattle.choice.proofs.charts.Choice.weigh_potentials.Goals as goal

@@ -1,14 +1,15 @@
 use Rattle.std.proofs.Common.{◌≡◌, ℕ, ◌+◌, ◌*◌, ◌<◌, ◌≤◌, List, [], length, get_or, ℤ, pos, refl, ap, ◌∙◌, mul-le-mul, add-one, add-zero, arith}
 use borrow.Author.Differences.{up}
 use Rattle.std.proofs.lemmas.Result.{err_from_is_err_and}
+use Rattle.finite.proofs.Lists.{chunk_at}
 use Rattle.finite.proofs.Search.{least_none}
 use Rattle.chart.proofs.Bounds.{entry_most}
 use Rattle.std.specs.Simd.{first_chunks}
-use Rattle.chain.specs.Words.{word}
+use Rattle.chart.specs.Words.{word}
 use Rattle.chain.specs.Pairing.{left, right, amount, triples, bad_word}
 use Rattle.weighted.specs.View.{chain}
 use Rattle.weighted.proofs.Tally.{tallied_none, tallied_more}
-use Rattle.weighted.proofs.Triples.{chunk_at, bad_found, clear_more}
+use Rattle.weighted.proofs.Triples.{bad_found, clear_more}
 use Rattle.weighted.proofs.charts.Weighted.gather.Goals as goal
 
 pub loop-j-init : goal.loop-j-init

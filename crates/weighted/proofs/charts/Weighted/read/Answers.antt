@@ -5,7 +5,7 @@ use Rattle.finite.specs.Sums.{sum}
 use Rattle.finite.specs.Search.{least}
 use Rattle.finite.proofs.Search.{least_none_at}
 use Rattle.files.specs.declared.header.Header.{Header}
-use Rattle.files.specs.declared.kind.Kind.TheVariants.{Weighted as weighted_kind}
+use Rattle.files.specs.declared.kind.Kind.{Kind}
 use Rattle.files.specs.Format.{sections_field, whole_field}
 use Rattle.files.specs.Reading.{Fits}
 use Rattle.chain.proofs.Registers.{registers_bound, settled_is_distance, entries_bound_distance}
@@ -14,28 +14,28 @@ use Rattle.weighted.specs.Reading.{part_in}
 use Rattle.weighted.proofs.charts.Weighted.read.Goals as goal
 
 -- the first row that does not add up, as the file has it
-same_rows : {bs : List ℕ} {h : Header} (rows : List (List ℕ)) → Fits weighted_kind bs h → ((s u : ℕ) → entry_at rows s u ≡ part_in bs s u)
+same_rows : {kind : Kind} {bs : List ℕ} {h : Header} (rows : List (List ℕ)) → Fits kind bs h → ((s u : ℕ) → entry_at rows s u ≡ part_in bs s u)
     → least (sections_field bs) (λ s. not (eqb (sum (sections_field bs) (part_in bs s)) (whole_field bs))) ≡ least h.sections (λ s. not (eqb (sum h.sections (entry_at rows s)) h.whole))
-same_rows {bs} rows fits parts =
+same_rows {kind} {bs} rows fits parts =
     let rows_are : entry_at rows ≡ part_in bs = fun_ext (λ s. fun_ext (λ u. parts s u)) in
     rw (fits.sections_is, fits.whole_is, rows_are) refl
 
 pub returns-in-Some-clause-answer : goal.returns-in-Some-clause-answer
 returns-in-Some-clause-answer c =
     let file = c.in_ok-file in
-    rw (← file.ensures.answer, ← file.ensures.bytes, same_rows c.rows-rows.result file.file.fits c.rows-rows.ensures, ← c.in-Some.ensures) refl
+    rw (← file.ensures.answer, ← file.ensures.bytes, same_rows c.read_rows-rows.result file.file.fits c.read_rows-rows.ensures, ← c.in-Some.ensures) refl
 
 pub invariant_of-self-clause-adds_up : goal.invariant_of-self-clause-adds_up
 invariant_of-self-clause-adds_up c s l =
     let h = c.in_ok-file.file.header in
-    let even = least_none_at h.sections (λ s. not (eqb (sum h.sections (entry_at c.rows-rows.result s)) h.whole)) (sym c.in_default.ensures) s l in
+    let even = least_none_at h.sections (λ s. not (eqb (sum h.sections (entry_at c.read_rows-rows.result s)) h.whole)) (sym c.in_default.ensures) s l in
     grind (arith, nat_tests)
 
 pub returns-clause-answer : goal.returns-clause-answer
 returns-clause-answer c =
     let file = c.in_ok-file in
     let fits = file.file.fits in
-    rw (← file.ensures.answer, ← file.ensures.bytes, same_rows c.rows-rows.result fits c.rows-rows.ensures, ← c.in_default.ensures) (ap Ok fits.sections_is)
+    rw (← file.ensures.answer, ← file.ensures.bytes, same_rows c.read_rows-rows.result fits c.read_rows-rows.ensures, ← c.in_default.ensures) (ap Ok fits.sections_is)
 
 pub returns-clause-chart : goal.returns-clause-chart
 returns-clause-chart c =
@@ -46,7 +46,7 @@ returns-clause-chart c =
       b = fits.denominator_is i;
       whole = fits.whole_is i;
       band = λ s. c.bands.ensures s i;
-      part = λ s u. c.rows-rows.ensures s u i;
+      part = λ s u. c.read_rows-rows.ensures s u i;
     })
 
 pub returns-in_err-file-clause-bounds : goal.returns-in_err-file-clause-bounds

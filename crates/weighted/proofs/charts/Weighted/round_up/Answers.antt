@@ -1,15 +1,7 @@
-use Rattle.std.proofs.Common.{◌≡◌, ℕ, ◌+◌, ◌-◌, ◌*◌, ◌/◌, ◌%◌, ◌<◌, ◌≤◌, min, mul-pos, mul-le-mul, sym, ◌∙◌, arith}
-use Rattle.std.proofs.lemmas.Grind.{div_ceil_times}
-use Rattle.std.proofs.lemmas.Nat.{div_below, div-mul-add}
+use Rattle.std.proofs.Common.{◌+◌, ◌-◌, ◌*◌, ◌<◌, ◌≤◌, mul-pos, mul-le-mul, ◌∙◌, arith}
+use Rattle.std.proofs.lemmas.Nat.{div_below}
+use Rattle.finite.proofs.Quotients.{ceil_is}
 use Rattle.weighted.proofs.charts.Weighted.round_up.Goals as goal
-
--- a quotient rounded up, by its whole part and its rest
-ceil_is : (x y : ℕ) → 0 < y → x / y + min 1 (x % y) ≡ (x + (y - 1)) / y
-ceil_is x y some =
-    let r = x / y + min 1 (x % y) in
-    let near = div_ceil_times x y some in
-    let sum : x + (y - 1) ≡ r * y + (x + (y - 1) - r * y) = omega arith in
-    sym (rw sum (div-mul-add r y (x + (y - 1) - r * y) (omega arith)))
 
 some : (c : goal.After-div_ceil) → 0 < c.args.self.now.b * c.args.self.now.whole
 some c = mul-pos (omega arith) (omega arith)

@@ -6,9 +6,10 @@ use Rattle.finite.specs.Search.{first_of, least}
 use Rattle.finite.proofs.Search.{least_same}
 use Rattle.chart.specs.Distances.{Distances}
 use Rattle.chart.specs.Tables.{distances}
+use Rattle.chart.specs.Bands.{unjudged}
 use Rattle.chart.proofs.Bounds.{entry_bounded}
 use Rattle.chain.specs.declared.fault.Fault.TheVariants.{FirstMargin, SecondMargin}
-use Rattle.chain.specs.Chain.{Chain, unjudged}
+use Rattle.chain.specs.Chain.{Chain}
 use Rattle.chain.specs.Pairing.{left, right, margin, pairing_fault}
 use Rattle.chain.proofs.Exits.{faulty, pairing_unjudged, pairing_count, pairing_word}
 use Rattle.chain.proofs.Valid.{pairing_from}
@@ -26,7 +27,7 @@ same_search : (c : Chain) (s : ℕ) (ws : List ℤ) (side : List ℤ → ℕ →
 same_search c s ws side got few h = least_same c.n _ _ (λ u l. ap (λ m. not (eqb m (c.part s u))) (sym (h u (omega arith))))
 
 -- where the words are gathered, the fault is that of the margins
-gathered : (w : Weighted) (s t : ℕ) (ws : List ℤ) (d : Distances) (g : Gathered) → false ≡ unjudged (chain w) s t → false ≡ (not (eqb (length ws % 3) 0) || ltb 3072 (length ws)) → Gathers (chain w) d ws g
+gathered : (w : Weighted) (s t : ℕ) (ws : List ℤ) (d : Distances) (g : Gathered) → false ≡ unjudged w.n (chain w).band s t → false ≡ (not (eqb (length ws % 3) 0) || ltb 3072 (length ws)) → Gathers (chain w) d ws g
     → pairing_fault (chain w) s t ws ≡ first_of (
     option_map FirstMargin (least w.n (λ u. not (eqb (get_or g.left u 0) ((chain w).part s u))))
     ∷ option_map SecondMargin (least w.n (λ v. not (eqb (get_or g.right v 0) ((chain w).part t v))))

@@ -4,7 +4,7 @@ use Rattle.std.proofs.lemmas.Int.{to_z-of_z}
 use Rattle.std.proofs.lemmas.Slice.Zip.{zip_turn, zip_end}
 use Rattle.std.proofs.lemmas.List.{length_push}
 use Rattle.finite.specs.Sums.{sumℤ}
-use Rattle.chain.specs.Words.{word}
+use Rattle.chart.specs.Words.{word}
 use Rattle.weighted.specs.View.{chain}
 use Rattle.weighted.proofs.Near.{Near, near_product}
 use Rattle.weighted.proofs.charts.Weighted.weigh_row.Goals as goal

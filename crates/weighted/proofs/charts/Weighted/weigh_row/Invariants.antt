@@ -1,6 +1,6 @@
 use Rattle.std.proofs.Common.{◌≡◌, ◌*◌, length, pos, ◌*ℤ◌}
 use Rattle.finite.specs.Sums.{sumℤ}
-use Rattle.chain.specs.Words.{word}
+use Rattle.chart.specs.Words.{word}
 use Rattle.weighted.specs.View.{chain}
 use Rattle.weighted.proofs.Near.{Near}
 use Rattle.weighted.proofs.charts.Weighted.weigh_row.Given as goal

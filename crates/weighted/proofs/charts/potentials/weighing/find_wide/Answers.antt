@@ -3,8 +3,8 @@ use borrow.Author.Differences.{ints}
 use Rattle.std.proofs.lemmas.Iterator.{YieldsList-from_slice}
 use Rattle.std.proofs.lemmas.Iterator.Search.{position_from_yields_List}
 use Rattle.std.specs.Int.RustNames.{unsigned_abs}
-use Rattle.chain.specs.Words.{outside, word}
 use Rattle.finite.proofs.Lists.{position_least}
+use Rattle.chart.specs.Words.{outside, word}
 use Rattle.weighted.proofs.charts.potentials.weighing.find_wide.Goals as goal
 
 -- a word is further from 0 than the top where its size is above it

@@ -1,6 +1,7 @@
 -- The words of a showing.
 use Rattle.std.specs.Prelude.{ℕ, Bool, ◌||◌, List, ℤ, pos, ◌≤ℤ◌, int_lt, slice_index_or}
 
+-- the word at a place; after the last it counts as 0
 abbrev pub word : List ℤ → ℕ → ℤ
 word ws i = slice_index_or ws i (pos 0)
 

@@ -2,7 +2,7 @@ use Rattle.std.proofs.Common.{◌≡◌, rules, arith}
 use Rattle.std.proofs.lemmas.Bool.Decides.{nat_tests}
 use Rattle.finite.proofs.Lists.{made_everywhere}
 use Rattle.files.specs.Headers.{band_in}
-use Rattle.weighted.proofs.charts.file.ChartFile.bands.Goals as goal
+use Rattle.files.proofs.file.ChartFile.bands.Goals as goal
 
 pub returns : goal.returns
 returns c =
