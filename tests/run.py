@@ -70,7 +70,9 @@ def split():
 
 
 def bands_of(file):
-    """The bands of a chart, one for each section."""
+    """The bands of a chart, one for each section; of the two charts of a test that is sat twice, those of both."""
+    if isinstance(file, tuple):
+        return list(zip(*map(bands_of, file)))
     header = struct.unpack_from(">8H", file)
     return file[header[5] : header[5] + header[1]]
 
@@ -261,6 +263,40 @@ WIDEST_CHOICES = [
     (weigh("lower", 0, 31, [0, 31, TOP + 1]), "fault 134 2 (the floor is not from 0 to the top)"),
 ]
 
+# the worked chart in both sittings
+SPLIT = "141 0 (a pairing begins with how many of the words left are for sitting 0)"
+SITTING = "142 0 (potentials begin with their sitting, 0 or 1)"
+UNPAID = "104 0 (the amounts at section 0 do not add up to its part)"
+GOOD = [0, 3, 3, 1, 3, 1]
+TWICE = [
+    (weigh("upper", 0, 3, [6] + GOOD + GOOD), "= 15"),
+    (weigh("upper", 0, 1, [6] + GOOD + GOOD), "fault 100 0 (the pair is apart, or has a section that the charts have not)"),
+    (weigh("upper", 0, 3, []), f"fault {SPLIT}"),
+    (weigh("upper", 0, 3, [-1] + GOOD), f"fault {SPLIT}"),
+    (weigh("upper", 0, 3, [7] + GOOD), f"fault {SPLIT}"),
+    (weigh("upper", 0, 3, [6] + GOOD), f"fault 1 {UNPAID}"),
+    (weigh("upper", 0, 3, [3, 0, 3, 4] + GOOD), f"fault 0 {UNPAID}"),
+    (weigh("upper", 0, 3, [6] + GOOD + [0, 3, 4]), f"fault 1 {UNPAID}"),
+    (weigh("upper", 0, 3, [3, 0, 3, 4, 0, 3, 4]), f"fault 0 {UNPAID}"),
+    (weigh("lower", 0, 3, []), f"fault {SITTING}"),
+    (weigh("lower", 0, 3, [2, 6]), f"fault {SITTING}"),
+    (weigh("lower", 0, 3, [0] + [0] * 8), "= 0"),
+    (weigh("lower", 0, 3, [1] + [0] * 7), "fault 1 111 7 (potentials cannot have 7 words: they have two for each section)"),
+    ("open upper", "= 0"),
+    ("claim 0 3 5", "= 1"),
+    ("close", "= 1"),
+    (" ".join(map(str, ["show 0 3 6", *GOOD, *GOOD])), "refused 55 6 (the pairing shows no claim below 6)"),
+    ("show 0 3 3 0 3 4 0 3 4", f"refused 54 0 {UNPAID}"),
+    (" ".join(map(str, ["show 0 3 6", *GOOD, 0, 3, 4])), f"refused 54 1 {UNPAID}"),
+    ("show 0 3", f"refused 54 {SPLIT}"),
+    ("abandon", "= 1"),
+] + draft("upper", {(0, 3): (6, [6] + GOOD + GOOD)}) + draft("lower", {(0, 3): (6, [1, 6, 30, 0, 0, 0, 0, 0, 0])})
+
+# a weighted chart with the sections and the bands of the choice chart, as the second sitting and as the first
+PARTED = chart(3, 1, 2, 2, [0, 1, 0], [[1, 1, 0], [0, 2, 0], [0, 0, 2]])
+MIXED = draft("upper", {(0, 2): (4, [4, 0, 2, 1, 2, 0, 2, 1, 1, 2, 1])}) + draft("lower", {(0, 2): (4, [0, 0, 1, 8])})
+MIXED_OTHERWISE = draft("upper", {(0, 2): (4, [6, 0, 2, 1, 1, 2, 1, 0, 2, 1, 2])}) + draft("lower", {(0, 2): (4, [1, 0, 1, 8])})
+
 # on `split` over the greatest top, each refusal, and nothing entered
 REFUSALS = [
     ("ask 31 32", f"refused 80 {OUTSIDE}"),
@@ -318,6 +354,10 @@ PLAYED = [
     ("every choice of 32 sections", ALL_32, TOP, draft("upper", {(s, t): (0, EACH) for s in range(32) for t in range(32)}),
      {(s, t): (0, 0) for s in range(32) for t in range(32)}),
     ("masks first, and bytes between", choice(3, 1, 2, [0, 1, 0], [3, 2, 4], routes_at=17, bands_at=60, size=70), 8, [(weigh("upper", 0, 2, [0, 2, 1, 2]), "= 4")], {}),
+    ("the worked chart twice", (WORKED, WORKED), 30, TWICE, {(0, 3): (6, 6)}),
+    ("choices and then parts", (THREE, PARTED), 8, MIXED, {(0, 2): (4, 4)}),
+    ("parts and then choices", (PARTED, THREE), 8, MIXED_OTHERWISE, {(0, 2): (4, 4)}),
+    ("two sittings with other bands", (THREE, choice(3, 1, 2, [0, 0, 1], [1, 2, 4])), 8, [("ask 0 2", "= 8 8 apart"), ("ask 0 1", "= 8 8 apart")], {}),
     ("a draft that is not entered", WORKED, 30, draft("upper", {(0, 3): (6, [0, 3, 3, 1, 3, 1])})[:-1], {}),
 ]
 
@@ -359,6 +399,7 @@ DISCOUNT = "the discount a / b does not have 1 <= a < b <= 1000"
 PARTS = "P is not from 1 to 10,000, or in a choice chart not 0"
 BANDS = "the bands do not lie in the file"
 ROUTES = "the routes do not lie in the file, or share a byte with the bands"
+MISFIT = "the two charts differ in their sections or discount, or their showings are too long together"
 MASK = "a mask is 0, or marks a section that the chart has not"
 
 # name, the chart's bytes, the top, and what is said of them
@@ -395,6 +436,9 @@ REFUSED = [
     ("choices with bands in the header", choice(3, 1, 2, [0, 1, 0], [3, 2, 4], bands_at=15), 8, f"a.chart refused 6 10 ({BANDS})"),
     ("masks that share a byte", choice(3, 1, 2, [0, 1, 0], [3, 2, 4], routes_at=18), 8, f"a.chart refused 6 12 ({ROUTES})"),
     ("choices of another length", choice(3, 1, 2, [0, 1, 0], [3, 2, 4], length=32), 8, f"a.chart refused 1 14 ({LENGTH})"),
+    ("two charts of other sections", (WORKED, THREE), 8, f"the two charts refused 12 ({MISFIT})"),
+    ("two charts of other discounts", (THREE, choice(3, 1, 3, [0, 1, 0], [3, 2, 4])), 8, f"the two charts refused 12 ({MISFIT})"),
+    ("a second chart of 15 bytes", (THREE, THREE[:15]), 8, "b.chart refused 1 15 (the file has fewer than 16 bytes)"),
     ("15 bytes of a choice chart", THREE[:15], 8, "a.chart refused 1 15 (the file has fewer than 16 bytes)"),
 ]
 
@@ -416,18 +460,23 @@ CHOICE_EXAMPLE = [
 ]
 
 
+def charts(file):
+    """The arguments that name the chart of a test, or its two charts."""
+    return ["a.chart", "b.chart"] if isinstance(file, tuple) else ["a.chart"]
+
+
 def cases():
     """Each run: its name, the chart's bytes, the arguments, the input, and what the program must write and how it must end."""
     here = ["a.chart", "30"]
     for name, file, top, script, entries in PLAYED:
         # no line feed after the last line: the stored run has one
-        yield name, file, ["a.chart", str(top)], "\n".join(line for line, _ in script), played(file, top, script, entries), "", 0
+        yield name, file, charts(file) + [str(top)], "\n".join(line for line, _ in script), played(file, top, script, entries), "", 0
     for line, said in MALFORMED:
         yield line, WORKED, here, f"# first\n\nask 0 3\n{line}\nask 0 3\n", ["ask 0 3 = 0 30 open"], f"settle: line 4: {said}", 1
     for name, file, top, said in REFUSED:
-        yield name, file, ["a.chart", str(top)], "ask 0 3\n", [], f"settle: {said}", 1
-    for arguments in [[], ["a.chart"], ["a.chart", "30", "30"]]:
-        yield f"{len(arguments)} arguments", WORKED, arguments, "ask 0 3\n", [], "usage: settle CHART TOP < CALLS", 1
+        yield name, file, charts(file) + [str(top)], "ask 0 3\n", [], f"settle: {said}", 1
+    for arguments in [[], ["a.chart"], ["a.chart", "a.chart", "30", "30"]]:
+        yield f"{len(arguments)} arguments", WORKED, arguments, "ask 0 3\n", [], "usage: settle CHART TOP < CALLS, or settle CHART0 CHART1 TOP < CALLS", 1
     yield "no such file", WORKED, ["none.chart", "30"], "", [], "settle: none.chart cannot be read (No such file or directory (os error 2))", 1
     for name, answers, accepted, refused, entries in [("worked.calls", EXAMPLE, 11, 1, {(0, 3): (6, 6)}), ("worked.lines", weighings(), 0, 0, {})]:
         text = (ROOT / "examples" / name).read_text()
@@ -447,7 +496,8 @@ def main():
     runs = wrong = 0
     with tempfile.TemporaryDirectory() as folder:
         for name, file, arguments, text, out, err, status in cases():
-            (pathlib.Path(folder) / "a.chart").write_bytes(file)
+            for path, content in zip(charts(file), file if isinstance(file, tuple) else [file]):
+                (pathlib.Path(folder) / path).write_bytes(content)
             got = subprocess.run([program, *arguments], input=text, capture_output=True, text=True, timeout=60, cwd=folder)
             want = ("".join(l + "\n" for l in out), err + "\n" if err else "", status)
             runs += 1

@@ -7,8 +7,8 @@ use thiserror::Error;
 /// Why the program ends early.
 #[derive(Debug, Drop, Error)]
 pub enum Failure {
-    /// There are not just two arguments.
-    #[error("usage: settle CHART TOP < CALLS")]
+    /// There are not two or three arguments.
+    #[error("usage: settle CHART TOP < CALLS, or settle CHART0 CHART1 TOP < CALLS")]
     Usage,
     /// The file at this path cannot be read.
     #[error("settle: {0} cannot be read ({1})")]
@@ -16,6 +16,9 @@ pub enum Failure {
     /// The file at this path holds no chart.
     #[error("settle: {0} refused {1}")]
     Chart(String, ReadRefusal),
+    /// The two charts are no two sittings of one test.
+    #[error("settle: the two charts refused {0}")]
+    Misfit(String),
     /// TOP is no top.
     #[error("settle: TOP refused {0}")]
     Top(#[from] TopRefusal),

@@ -1,4 +1,5 @@
 //! `settle CHART TOP < CALLS`: plays a script of calls against a register of the chart, and reports every pair.
+//! `settle CHART0 CHART1 TOP < CALLS` does so for a test that is sat twice, under the two charts.
 
 #![tactic(auto)]
 
@@ -18,6 +19,7 @@ use files::refusal::ReadRefusal;
 use lines::numerals::read_number;
 use register::register::Register;
 use session::settle_lines;
+use sittings::two::Sittings;
 use std::fmt::Display;
 use std::fs::File;
 use std::io::{BufReader, BufWriter, Read, Write};
@@ -28,13 +30,33 @@ use weighted::charts::Weighted;
 /// More bytes than any chart file has.
 const TOO_LONG: u64 = 65_536;
 
-/// The arguments CHART and TOP.
-fn arguments(rt: &HostRuntime) -> Result<(String, String), Failure> {
-    let mut all = env::args(rt)?;
-    let _program = all.next();
-    match (all.next(), all.next(), all.next()) {
-        (Some(chart), Some(top), None) => Ok((chart, top)),
-        _ => Err(Failure::Usage),
+/// What the arguments name: a chart, or the two charts of a test that is sat twice, and the top.
+struct Arguments {
+    chart: String,
+    second: Option<String>,
+    top: String,
+}
+
+impl Arguments {
+    fn read(rt: &HostRuntime) -> Result<Arguments, Failure> {
+        let mut all = env::args(rt)?;
+        let _program = all.next();
+        let (Some(chart), Some(next)) = (all.next(), all.next()) else {
+            return Err(Failure::Usage);
+        };
+        match (all.next(), all.next()) {
+            (None, _) => Ok(Arguments {
+                chart,
+                second: None,
+                top: next,
+            }),
+            (Some(top), None) => Ok(Arguments {
+                chart,
+                second: Some(next),
+                top,
+            }),
+            _ => Err(Failure::Usage),
+        }
     }
 }
 
@@ -105,13 +127,55 @@ where
     Ok(flushed?)
 }
 
+/// Plays them for a test that is sat under one chart and then under another.
+fn play_both<X: Chart + Drop, Y: Chart + Drop>(
+    rt: &HostRuntime,
+    first: X,
+    second: Y,
+    top: Top,
+) -> Result<(), Failure>
+where
+    X::Fault: Display + Drop,
+    Y::Fault: Display + Drop,
+{
+    match Sittings::new(first, second) {
+        Ok(chart) => play_calls(rt, chart, top),
+        Err(misfit) => {
+            let words = format!(in rt.alloc(); "{misfit}").map_err(io::Error::from)?;
+            Err(Failure::Misfit(words))
+        }
+    }
+}
+
+/// Plays them for a test whose second chart is the one of a file.
+fn play_second<X: Chart + Drop>(
+    rt: &HostRuntime,
+    first: X,
+    second: FileChart,
+    top: Top,
+) -> Result<(), Failure>
+where
+    X::Fault: Display + Drop,
+{
+    match second {
+        FileChart::Weighted(second) => play_both(rt, first, second, top),
+        FileChart::Choice(second) => play_both(rt, first, second, top),
+    }
+}
+
 fn run(rt: &HostRuntime) -> Result<(), Failure> {
-    let (path, top) = arguments(rt)?;
-    let chart = read_chart(rt, path)?;
+    let Arguments { chart, second, top } = Arguments::read(rt)?;
+    let chart = read_chart(rt, chart)?;
+    let second = match second {
+        Some(path) => Some(read_chart(rt, path)?),
+        None => None,
+    };
     let top = read_top(top.as_str())?;
-    match chart {
-        FileChart::Weighted(chart) => play_calls(rt, chart, top),
-        FileChart::Choice(chart) => play_calls(rt, chart, top),
+    match (chart, second) {
+        (FileChart::Weighted(chart), None) => play_calls(rt, chart, top),
+        (FileChart::Choice(chart), None) => play_calls(rt, chart, top),
+        (FileChart::Weighted(first), Some(second)) => play_second(rt, first, second, top),
+        (FileChart::Choice(first), Some(second)) => play_second(rt, first, second, top),
     }
 }
 

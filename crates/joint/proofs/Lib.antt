@@ -1,0 +1,4 @@
+mod Judging
+mod Alone
+mod Joining
+pub mod Laws

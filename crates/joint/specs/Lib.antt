@@ -1,0 +1,5 @@
+pub mod Fitting
+pub mod Splitting
+pub mod Faults
+pub mod Lines
+pub mod Meaning
