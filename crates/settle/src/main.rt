@@ -8,14 +8,13 @@ ghost use Rattle.chart.specs.Tops.{InRange};
 ghost use Rattle.lines.specs.Numerals.{number_of};
 
 mod failure;
+mod file_chart;
 mod session;
 
 use chart::kind::Chart;
 use chart::top::{Top, TopRefusal};
-use choice::charts::Choice;
 use failure::Failure;
-use files::kind::Kind;
-use files::refusal::ReadRefusal;
+use file_chart::FileChart;
 use lines::numerals::read_number;
 use register::register::Register;
 use session::settle_lines;
@@ -25,7 +24,6 @@ use std::fs::File;
 use std::io::{BufReader, BufWriter, Read, Write};
 use std::process::ExitCode;
 use std::{env, io};
-use weighted::charts::Weighted;
 
 /// More bytes than any chart file has.
 const TOO_LONG: u64 = 65_536;
@@ -67,31 +65,6 @@ fn file_bytes(rt: &HostRuntime, path: &str) -> io::Result<Vec<u8>> {
         .take(TOO_LONG)
         .read_to_end(&mut bytes)?;
     Ok(bytes)
-}
-
-/// A chart of the kind that a file names.
-#[derive(Drop)]
-enum FileChart {
-    Weighted(Weighted),
-    Choice(Choice),
-}
-
-impl FileChart {
-    /// The chart in a file with these bytes. A file of neither kind is refused as a weighted one.
-    fn read(bytes: &[u8]) -> Result<FileChart, ReadRefusal> {
-        match Kind::of(bytes) {
-            Some(Kind::Choice) => {
-                let mut chart = Choice::fresh();
-                chart.read(bytes)?;
-                Ok(FileChart::Choice(chart))
-            }
-            Some(Kind::Weighted) | None => {
-                let mut chart = Weighted::fresh();
-                chart.read(bytes)?;
-                Ok(FileChart::Weighted(chart))
-            }
-        }
-    }
 }
 
 /// The chart in a file.

@@ -1,0 +1,28 @@
+-- What a chart file is read as, by the kind that it names.
+use Rattle.std.specs.Prelude.{◌≡◌, ℕ, List, Some, None, Ok, Err, Option, Result}
+use Rattle.files.specs.declared.kind.Kind.{Kind}
+use Rattle.files.specs.declared.kind.Kind.TheVariants as kind
+use Rattle.files.specs.declared.refusal.ReadRefusal.{ReadRefusal}
+use Rattle.weighted.specs.View.{chain}
+use Rattle.weighted.specs.Reading as weighted
+use Rattle.choice.specs.View.{system}
+use Rattle.choice.specs.Reading as choice
+use Rattle.settle.specs.declared.file_chart.FileChart.{FileChart}
+use Rattle.settle.specs.declared.file_chart.FileChart.TheVariants.{Weighted, Choice}
+
+-- the weighted chart that the file holds, or why it holds none
+abbrev pub ReadAsWeighted : List ℕ → Result FileChart ReadRefusal → Type 0
+ReadAsWeighted bs (Ok (Weighted w)) = chain w ≡ weighted.chain_in bs
+ReadAsWeighted bs (Ok (Choice c)) = ⊥
+ReadAsWeighted bs (Err e) = weighted.read_answer bs ≡ Err e
+
+abbrev pub ReadAsChoice : List ℕ → Result FileChart ReadRefusal → Type 0
+ReadAsChoice bs (Ok (Weighted w)) = ⊥
+ReadAsChoice bs (Ok (Choice c)) = system c ≡ choice.system_in bs
+ReadAsChoice bs (Err e) = choice.read_answer bs ≡ Err e
+
+-- a file that names no kind is read as a weighted chart
+abbrev pub ReadAs : Option Kind → List ℕ → Result FileChart ReadRefusal → Type 0
+ReadAs None bs r = ReadAsWeighted bs r
+ReadAs (Some kind.Weighted) bs r = ReadAsWeighted bs r
+ReadAs (Some kind.Choice) bs r = ReadAsChoice bs r
