@@ -3,11 +3,11 @@ use Rattle.std.proofs.Common.{◌≡◌, ℕ, ◌↔◌, List, ℤ, Ok, Err, Res
 use Rattle.chart.specs.declared.side.Side.{Side}
 use Rattle.chart.specs.declared.side.Side.TheVariants.{Upper, Lower}
 use Rattle.chart.specs.Distances.{Distances}
-use Rattle.chart.specs.Weighing.{Weaker, Weighs}
+use Rattle.chart.specs.Weighing.{Weaker, Weighs, fault_as}
 use Rattle.chart.specs.Meaning.{Meaning, Shown}
 use Rattle.chart.specs.Laws.{Lawful}
 use Rattle.chart.specs.Same.{Same}
-use Rattle.chart.specs.Told.{NoStronger, in_numbers, meaning_of, told_of}
+use Rattle.chart.specs.Told.{NoStronger, meaning_of, told_of}
 
 weaker_itself : (side : Side) (c : ℕ) → Weaker side c c
 weaker_itself Upper c = le_refl c
@@ -19,11 +19,11 @@ module _ {F : Type 0} (m : Meaning F) where
 
 module _ {F : Type 0} (m : Meaning F) (lawful : Lawful m) where
   module _ (side : Side) (d : Distances) (s t : ℕ) (ws : List ℤ) where
-    weighs_told : (r : Result ℕ F) → Weighs side (IsOk (in_numbers m.numbers r)) (NoStronger side (in_numbers m.numbers r)) (in_numbers m.numbers r)
+    weighs_told : (r : Result ℕ F) → Weighs side (IsOk (fault_as m.numbers r)) (NoStronger side (fault_as m.numbers r)) (fault_as m.numbers r)
     weighs_told (Ok c) = (refl, record { shown = weaker_itself side c; others = λ x weaker. weaker })
     weighs_told (Err f) = λ ok. absurd (cc)
 
-    valid_by : (r : Result ℕ F) → Weighs side (m.valid side d s t ws) (m.shows side d s t ws) r → m.valid side d s t ws ↔ IsOk (in_numbers m.numbers r)
+    valid_by : (r : Result ℕ F) → Weighs side (m.valid side d s t ws) (m.shows side d s t ws) r → m.valid side d s t ws ↔ IsOk (fault_as m.numbers r)
     valid_by (Ok c) (valid, best) = (λ v. refl, λ ok. valid)
     valid_by (Err f) not_valid = (λ v. absurd (not_valid v), λ ok. absurd (cc))
 
@@ -31,7 +31,7 @@ module _ {F : Type 0} (m : Meaning F) (lawful : Lawful m) where
     valid_told = valid_by (m.weigh side d s t ws) (lawful.weighs side d s t ws)
 
     shown_by : (c : ℕ) (r : Result ℕ F) → Weighs side (m.valid side d s t ws) (m.shows side d s t ws) r
-        → (Shown m side d s t ws c → IsOk (in_numbers m.numbers r) × NoStronger side (in_numbers m.numbers r) c) × (IsOk (in_numbers m.numbers r) → NoStronger side (in_numbers m.numbers r) c → Shown m side d s t ws c)
+        → (Shown m side d s t ws c → IsOk (fault_as m.numbers r) × NoStronger side (fault_as m.numbers r) c) × (IsOk (fault_as m.numbers r) → NoStronger side (fault_as m.numbers r) c → Shown m side d s t ws c)
     shown_by c (Ok x) (valid, best) = (λ h. (refl, best.others c h.shows), λ ok weaker. lawful.closed side d s t ws x c (record { valid = valid; shows = best.shown }) weaker)
     shown_by c (Err f) not_valid = (λ h. absurd (not_valid h.valid), λ ok weaker. absurd (cc))
 
@@ -62,7 +62,7 @@ module _ {F : Type 0} (m : Meaning F) (lawful : Lawful m) where
     weighs = λ side d s t ws. weighs_told side d s t ws (m.weigh side d s t ws);
     unjudged = λ side d s t ws out.
         let (f, is, numbers) = lawful.unjudged side d s t ws (λ j. out (record { first_in = j.first_in; second_in = j.second_in; together = j.together })) in
-        (m.numbers f, ap (in_numbers m.numbers) is, numbers);
+        (m.numbers f, ap (fault_as m.numbers) is, numbers);
     words = λ d s t ws v. lawful.words d s t ws ((valid_told Upper d s t ws).1 v);
     short = λ side d s t ws v. lawful.short side d s t ws ((valid_told side d s t ws).1 v);
     self_judged = lawful.self_judged;

@@ -10,5 +10,6 @@ pub mod Starting
 pub mod Supported
 pub mod Same
 pub mod Told
+pub mod Carried
 pub mod Cells
 pub mod Texts

@@ -2,7 +2,7 @@
 use Rattle.std.specs.Prelude.{ℕ, Bool, List, ℤ, Ok, Err, Result, IsOk}
 use Rattle.chart.specs.declared.side.Side.{Side}
 use Rattle.chart.specs.Distances.{Distances}
-use Rattle.chart.specs.Weighing.{Weaker}
+use Rattle.chart.specs.Weighing.{Weaker, fault_as}
 use Rattle.chart.specs.Meaning.{Meaning}
 
 pub record Told : Type 0 where
@@ -33,10 +33,6 @@ meaning_of c = record {
   numbers = λ f. f;
 }
 
-abbrev pub in_numbers : {F : Type 0} → (F → List ℕ) → Result ℕ F → Result ℕ (List ℕ)
-in_numbers numbers (Ok c) = Ok c
-in_numbers numbers (Err f) = Err (numbers f)
-
 -- what a chart tells
 abbrev pub told_of : {F : Type 0} → Meaning F → Told
 told_of m = record {
@@ -45,5 +41,5 @@ told_of m = record {
   denominator = m.denominator;
   longest = m.longest;
   apart = m.apart;
-  weigh = λ side d s t ws. in_numbers m.numbers (m.weigh side d s t ws);
+  weigh = λ side d s t ws. fault_as m.numbers (m.weigh side d s t ws);
 }

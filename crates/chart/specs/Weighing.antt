@@ -22,3 +22,8 @@ answer None claim = Ok claim
 abbrev pub Weighs : {F : Type 0} → Side → Type 0 → (ℕ → Type 0) → Result ℕ F → Type 0
 Weighs side valid shows (Ok c) = valid × Strongest side shows c
 Weighs side valid shows (Err f) = valid → ⊥
+
+-- what is answered, a fault as something else
+abbrev pub fault_as : {F G : Type 0} → (F → G) → Result ℕ F → Result ℕ G
+fault_as f (Ok c) = Ok c
+fault_as f (Err fault) = Err (f fault)

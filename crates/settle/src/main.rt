@@ -8,13 +8,12 @@ ghost use Rattle.chart.specs.Tops.{InRange};
 ghost use Rattle.lines.specs.Numerals.{number_of};
 
 mod failure;
-mod file_chart;
 mod session;
 
 use chart::kind::Chart;
 use chart::top::{Top, TopRefusal};
 use failure::Failure;
-use file_chart::FileChart;
+use file_charts::chart::FileChart;
 use lines::numerals::read_number;
 use register::register::Register;
 use session::settle_lines;
@@ -101,38 +100,18 @@ where
 }
 
 /// Plays them for a test that is sat under one chart and then under another.
-fn play_both<X: Chart + Drop, Y: Chart + Drop>(
+fn play_both(
     rt: &HostRuntime,
-    first: X,
-    second: Y,
+    first: FileChart,
+    second: FileChart,
     top: Top,
-) -> Result<(), Failure>
-where
-    X::Fault: Display + Drop,
-    Y::Fault: Display + Drop,
-{
+) -> Result<(), Failure> {
     match Sittings::new(first, second) {
         Ok(chart) => play_calls(rt, chart, top),
         Err(misfit) => {
             let words = format!(in rt.alloc(); "{misfit}").map_err(io::Error::from)?;
             Err(Failure::Misfit(words))
         }
-    }
-}
-
-/// Plays them for a test whose second chart is the one of a file.
-fn play_second<X: Chart + Drop>(
-    rt: &HostRuntime,
-    first: X,
-    second: FileChart,
-    top: Top,
-) -> Result<(), Failure>
-where
-    X::Fault: Display + Drop,
-{
-    match second {
-        FileChart::Weighted(second) => play_both(rt, first, second, top),
-        FileChart::Choice(second) => play_both(rt, first, second, top),
     }
 }
 
@@ -144,11 +123,9 @@ fn run(rt: &HostRuntime) -> Result<(), Failure> {
         None => None,
     };
     let top = read_top(top.as_str())?;
-    match (chart, second) {
-        (FileChart::Weighted(chart), None) => play_calls(rt, chart, top),
-        (FileChart::Choice(chart), None) => play_calls(rt, chart, top),
-        (FileChart::Weighted(first), Some(second)) => play_second(rt, first, second, top),
-        (FileChart::Choice(first), Some(second)) => play_second(rt, first, second, top),
+    match second {
+        None => play_calls(rt, chart, top),
+        Some(second) => play_both(rt, chart, second, top),
     }
 }
 

@@ -1,0 +1,15 @@
+use Rattle.file_charts.specs.declared.chart.FileChart.TheVariants.{Weighted, Choice}
+use Rattle.file_charts.proofs.Registers.{registers_bound, settled_is_distance}
+use Rattle.file_charts.proofs.chart.FileChart.read.Goals as goal
+
+pub returns-in_ok-read-in-Some-Choice-clause-bounds : goal.returns-in_ok-read-in-Some-Choice-clause-bounds
+returns-in_ok-read-in-Some-Choice-clause-bounds c = registers_bound (Choice c.read.new.self)
+
+pub returns-in_ok-read-in-Some-Choice-clause-settled : goal.returns-in_ok-read-in-Some-Choice-clause-settled
+returns-in_ok-read-in-Some-Choice-clause-settled c = settled_is_distance (Choice c.read.new.self)
+
+pub returns-in_ok-read-in-Some-Weighted-clause-bounds : goal.returns-in_ok-read-in-Some-Weighted-clause-bounds
+returns-in_ok-read-in-Some-Weighted-clause-bounds c = registers_bound (Weighted c.read-in-Some-Weighted.new.self)
+
+pub returns-in_ok-read-in-Some-Weighted-clause-settled : goal.returns-in_ok-read-in-Some-Weighted-clause-settled
+returns-in_ok-read-in-Some-Weighted-clause-settled c = settled_is_distance (Weighted c.read-in-Some-Weighted.new.self)

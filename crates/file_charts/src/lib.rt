@@ -1,0 +1,6 @@
+//! A chart of the kind that its file names: a kind of chart of its own, over weighted charts and choice charts.
+
+#![tactic(auto)]
+
+pub mod chart;
+pub mod fault;
