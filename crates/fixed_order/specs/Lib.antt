@@ -1,0 +1,4 @@
+pub mod Order
+pub mod View
+pub mod Meaning
+pub mod Laws
