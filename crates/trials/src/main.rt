@@ -1,6 +1,6 @@
 //! `trials < LINES`: plays the lines of a trial, and writes what each comes to, for comparison with the independent model in `model/`.
 //!
-//! The lines are those of `settle`, and lines that read charts and make registers (see docs/TRIALS.md).
+//! The lines are those of `settle`, and lines that read charts and make registers (see model/README.md).
 
 #![tactic(auto)]
 
