@@ -1,0 +1,4 @@
+pub mod Charts
+pub mod Files
+pub mod Cases
+pub mod Scripts
