@@ -1,5 +1,5 @@
 -- A showing has no fault exactly if it is valid.
-use Rattle.std.proofs.Common.{◌≡◌, ℕ, zero, suc, ◌+◌, ◌-◌, ◌*◌, ◌/◌, ◌%◌, ◌<◌, false, not, ◌||◌, eqb, ltb, List, length, ℤ, pos, ◌+ℤ◌, neg_ℤ, None, refl, ◌∙◌, arith}
+use Rattle.std.proofs.Common.{◌≡◌, ℕ, zero, suc, ◌+◌, ◌-◌, ◌*◌, ◌/◌, ◌%◌, ◌<◌, false, not, ◌||◌, eqb, ltb, List, length, ℤ, pos, ◌+ℤ◌, ◌≤ℤ◌, neg_ℤ, None, refl, ◌∙◌, arith}
 use borrow.Author.Differences.{lt-false, false_is_lt, le_out, at_most_in}
 use Rattle.std.specs.Option.{option_map}
 use Rattle.std.proofs.lemmas.Bool.{false_from_ne_true, not-false, eqb-true, eq-eqb, not_from_true, lt-ltb, le-ltb, cond-true, cond-false}
@@ -86,11 +86,12 @@ module _ (c : Chain) (d : Distances) (s t : ℕ) (ws : List ℤ) where
             at_most_in (alpha ws u +ℤ beta c ws v) (pos (d.entry u v)) (lt-false (pos (d.entry u v)) (alpha ws u +ℤ beta c ws v) (grind (arith, nat_tests)));
       }
 
-  not_above : Potentials c d s t ws → (u v : ℕ) → u < c.n → v < c.n → above c d s t ws u v ≡ false
-  not_above p u v lu lv = false_from_ne_true (above c d s t ws u v) (λ e.
+  -- potentials of two successors that stay under their entry
+  pub not_above : (u v : ℕ) → (0 < c.part s u → 0 < c.part t v → (alpha ws u +ℤ beta c ws v) ≤ℤ pos (d.entry u v)) → above c d s t ws u v ≡ false
+  not_above u v under = false_from_ne_true (above c d s t ws u v) (λ e.
       let hu : 0 < c.part s u = grind (arith, nat_tests) in
       let hv : 0 < c.part t v = grind (arith, nat_tests) in
-      let low = false_is_lt (pos (d.entry u v)) (alpha ws u +ℤ beta c ws v) (le_out (alpha ws u +ℤ beta c ws v) (pos (d.entry u v)) (p.under u v lu lv hu hv)) in
+      let low = false_is_lt (pos (d.entry u v)) (alpha ws u +ℤ beta c ws v) (le_out (alpha ws u +ℤ beta c ws v) (pos (d.entry u v)) (under hu hv)) in
       grind (arith, nat_tests))
 
   pub potentials_to : Potentials c d s t ws → potentials_fault c d s t ws ≡ None
@@ -101,5 +102,5 @@ module _ (c : Chain) (d : Distances) (s t : ℕ) (ws : List ℤ) where
         judges_to c.n c.band s t p.judged,
         eq-eqb (length ws) (2 * c.n) p.count,
         least_none (length ws) (λ i. outside (neg_ℤ (pos d.top)) (pos d.top) (word ws i)) (λ i l. between_outside (neg_ℤ (pos d.top)) (pos d.top) (word ws i) (p.range i (omega (arith, p.count)))),
-        least_none (c.n * c.n) (λ i. above c d s t ws (i / c.n) (i % c.n)) (λ i l. not_above p (i / c.n) (i % c.n) (div_below i c.n c.n some l) (mod_below i c.n some)),
+        least_none (c.n * c.n) (λ i. above c d s t ws (i / c.n) (i % c.n)) (λ i l. not_above (i / c.n) (i % c.n) (p.under (i / c.n) (i % c.n) (div_below i c.n c.n some l) (mod_below i c.n some))),
       )

@@ -1,5 +1,6 @@
 mod Tally
 mod Triples
 mod Near
+mod Narrow
 mod Gains
 mod Scan

@@ -16,11 +16,11 @@ module _ (n : ℕ) (bad : ℕ → ℕ → Bool) where
   pub clear_cell : (u v : ℕ) → v < n → Clear (u * n + v) → bad u v ≡ false → Clear (u * n + (v + 1))
   clear_cell u v l h e k b = ⊎_elim (λ same. rw same (at_pair u v l false e)) (λ d. h k (omega arith)) (cases_eq k (u * n + v))
 
-  pub clear_skip : (u : ℕ) → Clear (u * n) → ((v : ℕ) → bad u v ≡ false) → Clear ((u + 1) * n)
+  pub clear_skip : (u : ℕ) → Clear (u * n) → ((v : ℕ) → v < n → bad u v ≡ false) → Clear ((u + 1) * n)
   clear_skip u h e k b =
       ⊎_elim (h k)
       (λ l. let same : u * n + (k - u * n) ≡ k = omega arith in
-      rw (← same) (at_pair u (k - u * n) (omega arith) false (e (k - u * n))))
+      rw (← same) (at_pair u (k - u * n) (omega arith) false (e (k - u * n) (omega arith))))
       (cases_lt k (u * n))
 
   pub scan_found : (u v : ℕ) → u < n → v < n → Clear (u * n + v) → bad u v ≡ true → least (n * n) (λ i. bad (i / n) (i % n)) ≡ Some (u * n + v)

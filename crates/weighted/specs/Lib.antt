@@ -3,3 +3,4 @@ pub mod View
 pub mod Gathering
 pub mod Reading
 pub mod Soundness
+pub mod Bounds

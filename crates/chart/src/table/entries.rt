@@ -1,4 +1,4 @@
-ghost use Rattle.std.specs.Prelude.{◌≡◌};
+ghost use Rattle.std.specs.Prelude.{◌≡◌, ℕ, ◌<◌, ◌≤◌, length, slice_index, MatchOption};
 ghost use Rattle.chart.specs.Tables.{distances, capped, overlaid};
 ghost use Rattle.chart.specs.Starting.{judged_pair, start_entry, start_table};
 
@@ -31,6 +31,14 @@ impl Table {
         ensures { result ≡ (distances self.now).entry s t }
     {
         cell_index(s, t).map_or(self.top(), |i| self.cells[i])
+    }
+
+    /// The entries of a section with each of 32 sections, or none where it is not below 32.
+    pub fn row(&self, s: usize) -> Option<&[u32]>
+        ensures { MatchOption result (32 ≤ s) (λ row. (s < 32) × (length row.now ≡ 32) × ((t : ℕ) → t < 32 → slice_index row.now t ≡ (distances self.now).entry s t)) }
+    {
+        let start = cell_index(s, 0)?;
+        self.cells.get(start..start + SECTIONS)
     }
 
     /// The table with these values in place of its entries; a value above the top counts as the top.

@@ -1,4 +1,6 @@
-ghost use Rattle.std.specs.Prelude.{◌≡◌, ◌*◌, ◌<◌, length};
+ghost use Rattle.std.specs.Prelude.{◌≡◌, ℕ, ◌*◌, ◌<◌, length};
+ghost use Rattle.chart.specs.Words.{word};
+ghost use Rattle.weighted.specs.Bounds.{Narrow};
 
 use crate::charts::Weighted;
 
@@ -14,4 +16,5 @@ struct Potentials<'a> {
     ghost first_in: { s < chart.now.n },
     ghost second_in: { t < chart.now.n },
     ghost two_each: { length words.now ≡ 2 * chart.now.n },
+    ghost narrow: { (i : ℕ) → Narrow (word words.now i) },
 }

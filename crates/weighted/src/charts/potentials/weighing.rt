@@ -1,4 +1,4 @@
-ghost use Rattle.std.specs.Prelude.{◌≡◌, ◌*◌, ◌/◌, ◌%◌, ◌<◌, ◌&&◌, length, pos, ◌+ℤ◌, ◌*ℤ◌, neg_ℤ, ◌≤ℤ◌, int_lt, nat_lt};
+ghost use Rattle.std.specs.Prelude.{◌≡◌, ℕ, ◌+◌, ◌*◌, ◌/◌, ◌%◌, ◌<◌, ◌&&◌, true, length, pos, ◌+ℤ◌, ◌*ℤ◌, neg_ℤ, ◌≤ℤ◌, int_lt, nat_lt};
 ghost use Rattle.finite.specs.Sums.{sumℤ};
 ghost use Rattle.finite.specs.Search.{least};
 ghost use Rattle.chart.specs.Tables.{distances};
@@ -7,11 +7,13 @@ ghost use Rattle.chart.specs.Words.{word, outside};
 ghost use Rattle.chain.specs.Potentials.{above, gain, greatest_claim};
 ghost use Rattle.chain.specs.Meaning.{weighed};
 ghost use Rattle.weighted.specs.View.{chain};
+ghost use Rattle.weighted.specs.Bounds.{Narrow};
 
 use crate::charts::Weighted;
 use crate::charts::potentials::Potentials;
 use chain::fault::Fault;
-use chart::table::Table;
+use chart::table::{SECTIONS, Table};
+use std::array;
 
 /// The first word that is further from 0 than the top.
 fn find_wide(words: &[i32], top: u32) -> Option<usize>
@@ -27,7 +29,39 @@ fn comes_above(part: u16, other: u16, alpha: i32, beta: i32, entry: u32) -> bool
     part > 0 && other > 0 && i64::from(alpha) + i64::from(beta) > i64::from(entry)
 }
 
+/// No potential is lower. Where no top is above 1,000,000,000, no potential comes above an entry with it.
+const LOWEST: i32 = -1_000_000_000;
+
+/// Whether the potential and each of the bounds add up to at most their entry in row `u` of the table.
+// A quick look at a whole row, with no branches, before a scan of its pairs.
+fn row_fits(d: &Table, u: usize, alpha: i32, bounds: &[i32; SECTIONS]) -> bool
+    requires { Narrow alpha × ((v : ℕ) → Narrow (word bounds.now v)) }
+    ensures { result ≡ true → (v : ℕ) → v < 32 → (alpha +ℤ word bounds.now v) ≤ℤ pos ((distances d.now).entry u v) }
+{
+    let Some(row) = d.row(u) else {
+        return false;
+    };
+    let mut above = false;
+    for v in 0..SECTIONS {
+        // `as`: no entry is above 1,000,000,000.
+        above |= alpha + bounds[v] > row[v] as i32;
+    }
+    !above
+}
+
 impl Potentials<'_> {
+    /// The potential of a section on the second side where it is a successor there, and else the lowest there is.
+    fn bound(&self, v: usize) -> i32
+        requires { v < 32 }
+        ensures narrow { Narrow result }
+        ensures same { v < self.now.chart.now.n → 0 < (chain self.now.chart.now).part self.now.t v → result ≡ word self.now.words.now (self.now.chart.now.n + v) }
+    {
+        match self.words.get(self.chart.n + v) {
+            Some(beta) if self.chart.rows[self.t][v] > 0 => *beta,
+            _ => LOWEST,
+        }
+    }
+
     /// The place of the first pair of successors, by `u` and then by `v`, whose potentials add up to more than its entry.
     fn find_above(&self, d: &Table) -> Option<usize>
         ensures { let n = self.now.chart.now.n in result ≡ least (n * n) (λ i. above (chain self.now.chart.now) (distances d.now) self.now.s self.now.t self.now.words.now (i / n) (i % n)) }
@@ -35,10 +69,14 @@ impl Potentials<'_> {
         let (alphas, betas) = self.words.split_at(self.chart.n);
         let first = &self.chart.rows[self.s];
         let second = &self.chart.rows[self.t];
+        let bounds: [i32; SECTIONS] = array::from_fn(|v| self.bound(v));
         let mut found = None;
         // By a rule of the project, the scan under the table is two loops that a label leaves.
         'scan: for (u, alpha) in alphas.iter().enumerate() {
             if first[u] == 0 {
+                continue;
+            }
+            if row_fits(d, u, *alpha, &bounds) {
                 continue;
             }
             for (v, beta) in betas.iter().enumerate() {

@@ -1,4 +1,4 @@
-use Rattle.std.proofs.Common.{◌≡◌, None, sym, refl, ◌∙◌, w64, SFits, to_z, of_z, rules}
+use Rattle.std.proofs.Common.{◌≡◌, ◌<◌, None, sym, refl, ◌∙◌, w64, SFits, to_z, of_z, rules}
 use Rattle.std.proofs.lemmas.Int.{to_z-of_z}
 use Rattle.chart.specs.Tables.{distances}
 use Rattle.chain.specs.Potentials.{gain, potentials_fault}
@@ -6,6 +6,7 @@ use Rattle.chain.proofs.Exits.{faulty, potentials_unjudged, potentials_count, po
 use Rattle.chain.proofs.Valid.{potentials_from}
 use Rattle.weighted.specs.View.{chain}
 use Rattle.weighted.proofs.Gains.{gain_few}
+use Rattle.weighted.proofs.Narrow.{narrow}
 use Rattle.weighted.specs.Soundness.{sound}
 use Rattle.weighted.proofs.charts.Weighted.weigh_potentials.Goals as goal
 
@@ -18,6 +19,17 @@ returns-then-words-self c = faulty _ _ _ (potentials_count _ _ _ _ _ (sym c.if-i
 pub returns-in-Some : goal.returns-in-Some
 returns-in-Some c =
     faulty _ _ _ (potentials_range _ _ _ _ _ (sym c.if-is_unjudged.ensures) c.if-words-self.false _ (rw (← c.top.ensures) (sym c.in-Some.ensures)))
+
+pub invariant_of-potentials : goal.invariant_of-potentials
+invariant_of-potentials c =
+    let first : c.args.s < c.args.self.now.n = search rules in
+    let second : c.args.t < c.args.self.now.n = search rules in
+    record {
+      first_in = first;
+      second_in = second;
+      two_each = c.if-words-self.false;
+      narrow = narrow c.args.words.now c.args.d.now.top.value c.args.d.now.top.most (rw (← c.top.ensures) (sym c.in_default.ensures));
+    }
 
 pub returns-in-Some-find_above : goal.returns-in-Some-find_above
 returns-in-Some-find_above c =
