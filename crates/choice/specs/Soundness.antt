@@ -15,8 +15,8 @@ goes_on : (w : Choice) (s : ℕ) → s < w.n → (u : ℕ) × (successor (system
 goes_on w s l =
     let mask : ℕ = slice_index w.masks s in
     let u : ℕ = trailing_zeros w32 mask in
-    let (_, set, _) = bit_at-trailing_zeros w32 mask (w.goes_on s l) (lt_of_lt_of_le (w.within s l) (pow_mono w.n_most)) in
-    let inside : u < w.n = ⊎_elim (λ h. h) (λ h. absurd (suc-ne-zero 0 (sym set ∙ bit_at_above mask w.n u (w.within s l) h))) (cases_lt u w.n) in
+    let (_, set, _) = bit_at-trailing_zeros w32 mask (w.goes_on s l) (lt_of_lt_of_le (w.within s) (pow_mono w.n_most)) in
+    let inside : u < w.n = ⊎_elim (λ h. h) (λ h. absurd (suc-ne-zero 0 (sym set ∙ bit_at_above mask w.n u (w.within s) h))) (cases_lt u w.n) in
     (u, and_from _ _ (lt-ltb u w.n inside) (eq-eqb _ _ set))
 
 pub sound : (w : Choice) → Sound (system w)

@@ -7,6 +7,7 @@ mod masks;
 mod pairing;
 mod potentials;
 mod reading;
+mod successors;
 
 /// The most words of a showing.
 const LONGEST: usize = 2048;
@@ -26,5 +27,5 @@ pub struct Choice {
     ghost a_most: { a < b },
     ghost b_most: { b ≤ 1000 },
     ghost goes_on: { (s : ℕ) → s < n → 1 ≤ slice_index masks s },
-    ghost within: { (s : ℕ) → s < n → slice_index masks s < 2 ^ n },
+    ghost within: { (s : ℕ) → slice_index masks s < 2 ^ n },
 }

@@ -1,17 +1,16 @@
-ghost use Rattle.std.specs.Prelude.{◌≡◌, ◌%◌, ◌≤◌, true, false, not, ◌&&◌, ◌||◌, length, pos, Some, MatchOption, MatchResult, ◌==◌, nat_lt, slice_index, slice_index_or};
+ghost use Rattle.std.specs.Prelude.{◌≡◌, ◌%◌, ◌≤◌, not, ◌&&◌, ◌||◌, length, Some, MatchResult, ◌==◌, nat_lt, slice_index};
 ghost use Rattle.std.specs.Option.{option_map};
 ghost use Rattle.finite.specs.Search.{least};
 ghost use Rattle.chart.specs.Tables.{distances};
 ghost use Rattle.chart.specs.declared.side.Side.TheVariants.{Upper};
 ghost use Rattle.chart.specs.Bands.{unjudged};
 ghost use Rattle.transitions.specs.declared.fault.Fault.TheVariants.{NoSuccessor};
-ghost use Rattle.transitions.specs.Words.{names};
-ghost use Rattle.transitions.specs.System.{successor};
 ghost use Rattle.transitions.specs.Pairing.{bad_word, least_claim};
 ghost use Rattle.transitions.specs.Meaning.{weighed};
-ghost use Rattle.choice.specs.View.{system};
+ghost use Rattle.choice.specs.View.{marks, system};
 ghost use Rattle.choice.specs.Gathering.{Gathers};
 
+use crate::charts::successors::named_section;
 use crate::charts::{Choice, LONGEST};
 use chart::table::{SECTIONS, Table};
 use transitions::fault::Fault;
@@ -23,11 +22,22 @@ fn wrong_count(count: usize) -> bool
     count % 2 != 0 || count > LONGEST
 }
 
-/// What one pass over the pairs of a pairing finds: which sections are in a pair on either side, and the greatest entry of a pair.
+/// The first section that `mask` marks and `paired` does not.
+fn find_unpaired(mask: u32, paired: u32) -> Option<usize>
+    ensures { result ≡ least SECTIONS (λ u. marks mask u && not (marks paired u)) }
+{
+    let unpaired = mask & !paired;
+    if unpaired == 0 {
+        return None;
+    }
+    // `as`: no `From` makes a usize of a u32, and it is below 32.
+    Some(unpaired.trailing_zeros() as usize)
+}
+
+/// What one pass over the pairs of a pairing finds: masks of the sections that are in a pair on either side, and the greatest entry of a pair.
 struct Gathered {
-    // Arrays, since a kind uses no heap; two, since each is searched by itself.
-    left: [bool; SECTIONS],
-    right: [bool; SECTIONS],
+    left: u32,
+    right: u32,
     greatest: u32,
 }
 
@@ -40,47 +50,21 @@ impl Choice {
         s >= self.n || t >= self.n || self.bands[s] != self.bands[t]
     }
 
-    /// The mask of section `s`, 0 where there is no such section.
-    fn mask(&self, s: usize) -> u32
-        ensures { result ≡ slice_index self.now.masks s }
-    {
-        self.masks.get(s).copied().unwrap_or(0)
-    }
-
-    /// Whether `s` has the successor `u`.
-    pub(super) fn has_successor(&self, s: usize, u: usize) -> bool
-        ensures { result ≡ successor (system self.now) s u }
-    {
-        u < self.n && self.mask(s) >> u & 1 == 1
-    }
-
-    /// The successor of `s` that a word names.
-    pub(super) fn named_successor(&self, s: usize, word: i32) -> Option<usize>
-        ensures { MatchOption result (names (system self.now) s word ≡ false) (λ u. (word ≡ pos u) × (successor (system self.now) s u ≡ true)) }
-    {
-        usize::try_from(word)
-            .ok()
-            .filter(|u| self.has_successor(s, *u))
-    }
-
     /// One pass over the pairs: the first word that names no successor, or what they have.
     fn gather(&self, d: &Table, s: usize, t: usize, words: &[i32]) -> Result<Gathered, Fault>
         requires { (length words.now % 2 ≡ 0) × (length words.now ≤ LONGEST) }
         ensures { MatchResult result (Gathers (system self.now) (distances d.now) s t words.now) (λ f. option_map NoSuccessor (least (length words.now) (bad_word (system self.now) s t words.now)) ≡ Some f) }
     {
-        let mut left = [false; SECTIONS];
-        let mut right = [false; SECTIONS];
+        let (first_mask, second_mask) = (self.mask(s), self.mask(t));
+        let mut left: u32 = 0;
+        let mut right: u32 = 0;
         let mut greatest: u32 = 0;
         let (pairs, _) = words.as_chunks::<2>();
         for (j, [first, second]) in pairs.iter().enumerate() {
-            let u = self
-                .named_successor(s, *first)
-                .ok_or(Fault::NoSuccessor(2 * j))?;
-            let v = self
-                .named_successor(t, *second)
-                .ok_or(Fault::NoSuccessor(2 * j + 1))?;
-            left[u] = true;
-            right[v] = true;
+            let u = named_section(first_mask, *first).ok_or(Fault::NoSuccessor(2 * j))?;
+            let v = named_section(second_mask, *second).ok_or(Fault::NoSuccessor(2 * j + 1))?;
+            left |= 1 << u;
+            right |= 1 << v;
             greatest = greatest.max(d.entry(u, v));
         }
         Ok(Gathered {
@@ -88,13 +72,6 @@ impl Choice {
             right,
             greatest,
         })
-    }
-
-    /// The first successor of `s` that is not among the paired sections.
-    fn find_unpaired(&self, s: usize, paired: &[bool; SECTIONS]) -> Option<usize>
-        ensures { result ≡ least self.now.n (λ u. successor (system self.now) s u && not (slice_index_or paired.now u false)) }
-    {
-        (0..self.n).find(|u| self.has_successor(s, *u) && !paired[*u])
     }
 
     /// An entry, discounted and rounded up.
@@ -127,10 +104,10 @@ impl Choice {
             right,
             greatest,
         } = self.gather(d, s, t, words)?;
-        if let Some(u) = self.find_unpaired(s, &left) {
+        if let Some(u) = find_unpaired(self.mask(s), left) {
             return Err(Fault::FirstUnpaired(u));
         }
-        if let Some(v) = self.find_unpaired(t, &right) {
+        if let Some(v) = find_unpaired(self.mask(t), right) {
             return Err(Fault::SecondUnpaired(v));
         }
         Ok(self.round_up(greatest))

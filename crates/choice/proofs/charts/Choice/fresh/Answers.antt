@@ -20,5 +20,12 @@ one_marked zero zero = refl
 one_marked zero (suc u) = rw (ne_eqb (suc u) 0 (λ e. omega arith)) (unmarked 1 (suc u) (pow-lt {i = 0} {j = suc u} (omega arith)))
 one_marked (suc s) u = rw (ne_eqb (suc s) 0 (λ e. omega arith)) (ap (λ mask. marks mask u) (zeros 31 s) ∙ unmarked 0 u (pow_pos u))
 
+one_within : (s : ℕ) → get_or (1 ∷ replicate 31 0) s 0 < 2 ^ 1
+one_within zero = omega arith
+one_within (suc s) = rw (zeros 31 s) (omega arith)
+
+pub invariant_of-result-clause-within : goal.invariant_of-result-clause-within
+invariant_of-result-clause-within c = one_within
+
 pub returns : goal.returns
 returns c = λ i. record { n = 1; a = 1; b = 2; band = λ s. zeros 32 s i; leads = λ s u. one_marked s u i }

@@ -10,7 +10,7 @@ use Rattle.transitions.proofs.Words.{successor_in}
 use Rattle.choice.specs.View.{system}
 use Rattle.choice.proofs.Pairs.{read}
 use Rattle.choice.proofs.Scan.{left_found, right_found, clear_more, all_clear}
-use Rattle.choice.proofs.Marks.{marked_none, marked_more}
+use Rattle.choice.proofs.Marks.{named_is, marked_none, marked_more}
 use Rattle.choice.proofs.charts.Choice.gather.Goals as goal
 
 pub loop-j-init : goal.loop-j-init
@@ -27,7 +27,7 @@ returns-in_err-u c =
     let j = c.loop-j.j in
     let inside : j < pairs ws = omega (arith, c.as_chunks.ensures.front_len) in
     let p = err_from_is_err_and c.from_residual.result c.from_residual.ensures.1 in
-    let none = MatchOption-at_none _ _ c.in_err-u.ensures.ok_part c.named_successor.ensures in
+    let none = MatchOption-at_none _ _ c.in_err-u.ensures.ok_part (named_is c.args.self.now c.args.s _ c.mask-first_mask.ensures _ _ c.named_section.ensures) in
     let first = rw add-zero at (read ws _ j 0 c.as_chunks.ensures.front inside (omega arith) (search rules)) in
     let bad = rw first at none in
     let e = c.in_err-u.ensures.value in
@@ -41,8 +41,8 @@ returns-in_err-v c =
     let j = c.loop-j.j in
     let inside : j < pairs ws = omega (arith, c.as_chunks.ensures.front_len) in
     let p = err_from_is_err_and c.from_residual-in_err-v.result c.from_residual-in_err-v.ensures.1 in
-    let some = MatchOption-at_some _ _ _ c.in_ok-u.ensures.ok_part c.named_successor.ensures in
-    let none = MatchOption-at_none _ _ c.in_err-v.ensures.ok_part c.named_successor-in-loop-j.ensures in
+    let some = MatchOption-at_some _ _ _ c.in_ok-u.ensures.ok_part (named_is c.args.self.now c.args.s _ c.mask-first_mask.ensures _ _ c.named_section.ensures) in
+    let none = MatchOption-at_none _ _ c.in_err-v.ensures.ok_part (named_is c.args.self.now c.args.t _ c.mask-second_mask.ensures _ _ c.named_section-in-loop-j.ensures) in
     let first = rw add-zero at (read ws _ j 0 c.as_chunks.ensures.front inside (omega arith) (search rules)) in
     let second = read ws _ j 1 c.as_chunks.ensures.front inside (omega arith) (search rules) in
     let good : names (system c.args.self.now) c.args.s (word ws (2 * j)) ≡ true = rw (sym first ∙ some.0) some.1 in
@@ -58,8 +58,8 @@ loop-j-preserved c =
     let ws = c.args.words.now in
     let j = c.loop-j.j in
     let inside : j < pairs ws = omega (arith, c.as_chunks.ensures.front_len) in
-    let some = MatchOption-at_some _ _ _ c.in_ok-u.ensures.ok_part c.named_successor.ensures in
-    let other = MatchOption-at_some _ _ _ c.in_ok-v.ensures.ok_part c.named_successor-in-loop-j.ensures in
+    let some = MatchOption-at_some _ _ _ c.in_ok-u.ensures.ok_part (named_is c.args.self.now c.args.s _ c.mask-first_mask.ensures _ _ c.named_section.ensures) in
+    let other = MatchOption-at_some _ _ _ c.in_ok-v.ensures.ok_part (named_is c.args.self.now c.args.t _ c.mask-second_mask.ensures _ _ c.named_section-in-loop-j.ensures) in
     let first : word ws (2 * j) ≡ pos c.in_ok-u.u = sym (rw add-zero at (read ws _ j 0 c.as_chunks.ensures.front inside (omega arith) (search rules))) ∙ some.0 in
     let second : word ws (2 * j + 1) ≡ pos c.in_ok-v.v = sym (read ws _ j 1 c.as_chunks.ensures.front inside (omega arith) (search rules)) ∙ other.0 in
     let u : c.in_ok-u.u ≡ left ws j = sym (ap up first) in
@@ -80,7 +80,7 @@ end c = omega arith
 pub returns : goal.returns
 returns c = record {
   good = all_clear (system c.args.self.now) c.args.s c.args.t c.args.words.now c.requires.0 (rw (← end c) c.loop-j.invariant.clear);
-  lefts = rw (← end c) c.loop-j.invariant.lefts.at;
-  rights = rw (← end c) c.loop-j.invariant.rights.at;
+  lefts = rw (← end c) c.loop-j.invariant.lefts;
+  rights = rw (← end c) c.loop-j.invariant.rights;
   most = rw (← end c) c.loop-j.invariant.most;
 }

@@ -1,5 +1,7 @@
-use Rattle.std.proofs.Common.{◌≡◌, ℕ, not, List, Ok, get_or, sym, refl, ap, arith}
+use Rattle.std.proofs.Common.{◌≡◌, ℕ, ◌^◌, ◌<◌, ◌≤◌, not, List, Ok, get_or, sym, refl, ap, ⊎_elim, arith}
+use Rattle.std.proofs.lemmas.Bool.{cases_lt, le-ltb}
 use Rattle.std.proofs.lemmas.Bool.Decides.{nat_tests}
+use Rattle.std.proofs.lemmas.Nat.{pow_pos}
 use Rattle.finite.specs.Search.{least}
 use Rattle.finite.proofs.Search.{least_none_at, least_same}
 use Rattle.files.specs.declared.header.Header.{Header}
@@ -17,6 +19,10 @@ same_masks {kind} {bs} masks fits same =
     let n = sections_field bs in
     rw fits.sections_is (least_same n _ _ (λ s l. ap (λ mask. not (mask_allowed n mask)) (sym (same s))))
 
+-- outside the sections all masks are 0
+outside : {kind : Kind} {bs : List ℕ} {h : Header} (masks : List ℕ) → Fits kind bs h → ((s : ℕ) → get_or masks s 0 ≡ mask_in bs s) → (s : ℕ) → h.sections ≤ s → get_or masks s 0 < 2 ^ h.sections
+outside {h} masks fits same s from = rw (same s, ← fits.sections_is, le-ltb s h.sections from) (pow_pos h.sections)
+
 pub returns-in-Some-clause-answer : goal.returns-in-Some-clause-answer
 returns-in-Some-clause-answer c =
     let file = c.in_ok-file in
@@ -29,10 +35,12 @@ invariant_of-self-clause-goes_on c s l =
     grind (arith, nat_tests)
 
 pub invariant_of-self-clause-within : goal.invariant_of-self-clause-within
-invariant_of-self-clause-within c s l =
+invariant_of-self-clause-within c s =
     let h = c.in_ok-file.file.header in
-    let allowed = least_none_at h.sections (λ s. not (mask_allowed h.sections (get_or c.read_masks-masks.result s 0))) (sym c.in_default.ensures) s l in
-    grind (arith, nat_tests)
+    ⊎_elim
+    (λ l. let allowed = least_none_at h.sections (λ s. not (mask_allowed h.sections (get_or c.read_masks-masks.result s 0))) (sym c.in_default.ensures) s l in grind (arith, nat_tests))
+    (λ from. outside c.read_masks-masks.result c.in_ok-file.file.fits c.read_masks-masks.ensures s from)
+    (cases_lt s h.sections)
 
 pub returns-clause-answer : goal.returns-clause-answer
 returns-clause-answer c =

@@ -1,21 +1,13 @@
-use Rattle.std.proofs.Common.{◌≡◌, ℕ, ◌<◌, ◌≤◌, Bool, false, not, ◌&&◌, List, get_or, ℤ, sym, ap, ◌∙◌, arith}
+use Rattle.std.proofs.Common.{◌≤◌, sym, ◌∙◌, arith}
 use Rattle.std.proofs.lemmas.Result.{err_from_is_err_and}
 use Rattle.std.proofs.lemmas.Bool.Decides.{nat_tests}
-use Rattle.finite.specs.Search.{least}
-use Rattle.finite.proofs.Search.{least_same}
 use Rattle.finite.proofs.Sums.{greatest_is}
 use Rattle.chart.specs.Tables.{distances}
 use Rattle.chart.proofs.Bounds.{entry_most}
-use Rattle.transitions.specs.System.{System, successor}
-use Rattle.transitions.specs.Pairing.{left, right, pairs, paired}
+use Rattle.transitions.specs.Pairing.{left, right, pairs}
 use Rattle.transitions.proofs.Exits.{upper_unjudged, upper_count, upper_word, upper_first, upper_second, upper_valid}
-use Rattle.choice.specs.View.{system}
+use Rattle.choice.proofs.Marks.{same_search}
 use Rattle.choice.proofs.charts.Choice.weigh_pairing.Goals as goal
-
--- the search through the marked sections is that through the paired
-same_search : (c : System) (s : ℕ) (ws : List ℤ) (side : List ℤ → ℕ → ℕ) (got : List Bool) → c.n ≤ 32 → ((x : ℕ) → x < 32 → get_or got x false ≡ paired side ws x)
-    → least c.n (λ u. successor c s u && not (paired side ws u)) ≡ least c.n (λ u. successor c s u && not (get_or got u false))
-same_search c s ws side got few h = least_same c.n _ _ (λ u l. ap (λ b. successor c s u && not b) (sym (h u (omega arith))))
 
 pub returns-then-is_unjudged : goal.returns-then-is_unjudged
 returns-then-is_unjudged c = sym (upper_unjudged _ (distances c.args.d.now) _ _ _ (sym c.if-is_unjudged.ensures))
@@ -35,15 +27,15 @@ pub returns-in-Some : goal.returns-in-Some
 returns-in-Some c =
     let w = c.args.self.now in
     let g = c.in_ok-left.ensures in
-    sym (upper_first _ (distances c.args.d.now) _ _ _ (sym c.if-is_unjudged.ensures) (sym c.if-wrong_count.ensures) g.good _ (same_search (system w) c.args.s c.args.words.now left _ w.n_most g.lefts ∙ sym c.in-Some.ensures))
+    sym (upper_first _ (distances c.args.d.now) _ _ _ (sym c.if-is_unjudged.ensures) (sym c.if-wrong_count.ensures) g.good _ (same_search w c.args.s _ c.mask.ensures c.args.words.now left _ g.lefts ∙ sym c.in-Some.ensures))
 
 pub returns-in-Some-find_unpaired : goal.returns-in-Some-find_unpaired
 returns-in-Some-find_unpaired c =
     let w = c.args.self.now in
     let g = c.in_ok-left.ensures in
     sym (upper_second _ (distances c.args.d.now) _ _ _ (sym c.if-is_unjudged.ensures) (sym c.if-wrong_count.ensures) g.good
-    (same_search (system w) c.args.s c.args.words.now left _ w.n_most g.lefts ∙ sym c.in_default.ensures) _
-    (same_search (system w) c.args.t c.args.words.now right _ w.n_most g.rights ∙ sym c.in-Some-find_unpaired.ensures))
+    (same_search w c.args.s _ c.mask.ensures c.args.words.now left _ g.lefts ∙ sym c.in_default.ensures) _
+    (same_search w c.args.t _ c.mask-2.ensures c.args.words.now right _ g.rights ∙ sym c.in-Some-find_unpaired.ensures))
 
 pub round_up-requires : goal.round_up-requires
 round_up-requires c =
@@ -57,5 +49,5 @@ returns c =
     let g = c.in_ok-left.ensures in
     rw (c.round_up.ensures, g.most)
     (sym (upper_valid _ (distances c.args.d.now) _ _ _ (sym c.if-is_unjudged.ensures) (sym c.if-wrong_count.ensures) g.good
-    (same_search (system w) c.args.s c.args.words.now left _ w.n_most g.lefts ∙ sym c.in_default.ensures)
-    (same_search (system w) c.args.t c.args.words.now right _ w.n_most g.rights ∙ sym c.in_default-find_unpaired.ensures)))
+    (same_search w c.args.s _ c.mask.ensures c.args.words.now left _ g.lefts ∙ sym c.in_default.ensures)
+    (same_search w c.args.t _ c.mask-2.ensures c.args.words.now right _ g.rights ∙ sym c.in_default-find_unpaired.ensures)))
