@@ -1,2 +1,3 @@
 pub mod Grids
 pub mod Rows
+pub mod Counts

@@ -1,7 +1,6 @@
-//! The claims of a draft and the marks of those that are shown: what stands for each pair, how many there are, and which is the first that is not shown.
+//! A register's draft: what it claims for each pair and how many claims it has, and once it is closed which of them are shown, how many are not, and the table in which showings are weighed.
 
 #![tactic(auto)]
 
+pub mod closed;
 pub mod draft;
-pub mod marks;
-pub mod unshown;

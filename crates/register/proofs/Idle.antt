@@ -18,22 +18,22 @@ use Rattle.register.proofs.Steps.{open_busy, claim_idle, close_idle, show_idle, 
 abbrev pub unsuited : {F : Type 0} → Phase → Call → Option (Refusal F)
 unsuited Resting (Open e) = None
 unsuited (Claiming c) (Open e) = Some refusal.NotResting
-unsuited (Showing c b) (Open e) = Some refusal.NotResting
+unsuited (Showing d) (Open e) = Some refusal.NotResting
 unsuited Resting (Claim s t v) = Some refusal.NotClaiming
 unsuited (Claiming c) (Claim s t v) = None
-unsuited (Showing c b) (Claim s t v) = Some refusal.NotClaiming
+unsuited (Showing d) (Claim s t v) = Some refusal.NotClaiming
 unsuited Resting Close = Some refusal.CloseNotClaiming
 unsuited (Claiming c) Close = None
-unsuited (Showing c b) Close = Some refusal.CloseNotClaiming
+unsuited (Showing d) Close = Some refusal.CloseNotClaiming
 unsuited Resting (Show s t ws) = Some refusal.NotShowing
 unsuited (Claiming c) (Show s t ws) = Some refusal.NotShowing
-unsuited (Showing c b) (Show s t ws) = None
+unsuited (Showing d) (Show s t ws) = None
 unsuited Resting Enter = Some refusal.EnterNotShowing
 unsuited (Claiming c) Enter = Some refusal.EnterNotShowing
-unsuited (Showing c b) Enter = None
+unsuited (Showing d) Enter = None
 unsuited Resting Abandon = Some refusal.Resting
 unsuited (Claiming c) Abandon = None
-unsuited (Showing c b) Abandon = None
+unsuited (Showing d) Abandon = None
 
 module _ {F : Type 0} (m : Meaning F) (ts : Tables) where
   abbrev Refuses : Phase → Call → Refusal F → Type 0
@@ -48,19 +48,19 @@ module _ {F : Type 0} (m : Meaning F) (ts : Tables) where
   pub idle : (p : Phase) (k : Call) (r : Refusal F) → unsuited p k ≡ Some r → Refuses p k r
   idle Resting (Open e) r h = nothing r h
   idle (Claiming c) (Open e) r h = taken (Claiming c) (Open e) _ r h (open_busy m (top_in ts) _ e (λ x. never (cc)))
-  idle (Showing c b) (Open e) r h = taken (Showing c b) (Open e) _ r h (open_busy m (top_in ts) _ e (λ x. never (cc)))
+  idle (Showing d) (Open e) r h = taken (Showing d) (Open e) _ r h (open_busy m (top_in ts) _ e (λ x. never (cc)))
   idle Resting (Claim s t v) r h = taken Resting (Claim s t v) _ r h (claim_idle m (top_in ts) _ s t v (λ e d x. never (cc)))
   idle (Claiming c) (Claim s t v) r h = nothing r h
-  idle (Showing c b) (Claim s t v) r h = taken (Showing c b) (Claim s t v) _ r h (claim_idle m (top_in ts) _ s t v (λ e d x. never (cc)))
+  idle (Showing d) (Claim s t v) r h = taken (Showing d) (Claim s t v) _ r h (claim_idle m (top_in ts) _ s t v (λ e d x. never (cc)))
   idle Resting Close r h = taken Resting Close _ r h (close_idle m (top_in ts) _ (λ e d x. never (cc)))
   idle (Claiming c) Close r h = nothing r h
-  idle (Showing c b) Close r h = taken (Showing c b) Close _ r h (close_idle m (top_in ts) _ (λ e d x. never (cc)))
+  idle (Showing d) Close r h = taken (Showing d) Close _ r h (close_idle m (top_in ts) _ (λ e d x. never (cc)))
   idle Resting (Show s t ws) r h = taken Resting (Show s t ws) _ r h (show_idle m (top_in ts) _ s t _ (λ e d b x. never (cc)))
   idle (Claiming c) (Show s t ws) r h = taken (Claiming c) (Show s t ws) _ r h (show_idle m (top_in ts) _ s t _ (λ e d b x. never (cc)))
-  idle (Showing c b) (Show s t ws) r h = nothing r h
+  idle (Showing d) (Show s t ws) r h = nothing r h
   idle Resting Enter r h = taken Resting Enter _ r h (enter_idle m (top_in ts) _ (λ e d b x. never (cc)))
   idle (Claiming c) Enter r h = taken (Claiming c) Enter _ r h (enter_idle m (top_in ts) _ (λ e d b x. never (cc)))
-  idle (Showing c b) Enter r h = nothing r h
+  idle (Showing d) Enter r h = nothing r h
   idle Resting Abandon r h = taken Resting Abandon _ r h (abandon_resting m (top_in ts) _ refl)
   idle (Claiming c) Abandon r h = nothing r h
-  idle (Showing c b) Abandon r h = nothing r h
+  idle (Showing d) Abandon r h = nothing r h

@@ -9,7 +9,7 @@ use Rattle.history.specs.Rules
 use Rattle.history.specs.Rules.{State, Draft, draft_of, resting, claims, written, Step}
 use Rattle.history.proofs.Cases.{never}
 use Rattle.claims.specs.declared.draft.Claims.{Claims}
-use Rattle.claims.specs.declared.marks.Marks.{Marks}
+use Rattle.claims.specs.declared.closed.ClosedDraft.{ClosedDraft}
 use Rattle.claims.specs.Scan.{First}
 use Rattle.claims.specs.Views.{values_of, marks_of}
 use Rattle.register.specs.declared.call.Call.{Call}
@@ -30,7 +30,7 @@ written_any Lower d ts p q = refl
 busy : (F : Type 0) (p : Phase) → unsuited {F = F} p Abandon ≡ None → phase_of p ≢ resting
 busy F Resting h e = never (cc)
 busy F (Claiming c) h e = never (cc)
-busy F (Showing c b) h e = never (cc)
+busy F (Showing d) h e = never (cc)
 
 -- how many claims are forgotten
 abbrev pub counts : Phase → ℕ
@@ -51,14 +51,14 @@ module _ {F : Type 0} (m : Meaning F) (ts : Tables) (p : Phase) (k : Call) where
     pub closed_empty : claims (values_of d) ≡ 0 → Step m (top_in ts) before (call_of k) (Err NoClaims) (state ts (phase_of (Claiming d)))
     closed_empty none = rw (is, ph) (close_empty m (top_in ts) (state ts (phase_of (Claiming d))) d.side (values_of d) refl none)
 
-    pub closed : (b : Marks) (n : ℕ) → marks_of b ≡ (λ s t. false) → n ≡ claims (values_of d) → n ≢ 0 → Step m (top_in ts) before (call_of k) (Ok (count n)) (state ts (phase_of (Showing d b)))
-    closed b n eb en some = rw (is, eb, en) (close_some m (top_in ts) before d.side (values_of d) (ap phase_of ph) (λ none. some (en ∙ none)))
+    pub closed : (d' : ClosedDraft) (n : ℕ) → d'.claims ≡ d → marks_of d' ≡ (λ s t. false) → n ≡ claims (values_of d) → n ≢ 0 → Step m (top_in ts) before (call_of k) (Ok (count n)) (state ts (phase_of (Showing d')))
+    closed d' n same eb en some = rw (is, same, eb, en) (close_some m (top_in ts) before d.side (values_of d) (ap phase_of ph) (λ none. some (en ∙ none)))
 
-  module _ (d : Claims) (b : Marks) (ph : p ≡ Showing d b) (is : k ≡ Enter) where
-    pub entered_first : (q : ℕ × ℕ) → First (values_of d) (marks_of b) (Some q) → Step m (top_in ts) before (call_of k) (Err (Unshown q.0 q.1)) (state ts (phase_of (Showing d b)))
-    entered_first q first = rw (is, ph) (enter_first m (top_in ts) (state ts (phase_of (Showing d b))) d.side (values_of d) (marks_of b) refl q first)
+  module _ (d : ClosedDraft) (ph : p ≡ Showing d) (is : k ≡ Enter) where
+    pub entered_first : (q : ℕ × ℕ) → First (values_of d.claims) (marks_of d) (Some q) → Step m (top_in ts) before (call_of k) (Err (Unshown q.0 q.1)) (state ts (phase_of (Showing d)))
+    entered_first q first = rw (is, ph) (enter_first m (top_in ts) (state ts (phase_of (Showing d))) d.claims.side (values_of d.claims) (marks_of d) refl q first)
 
-    pub entered : (ts' : Tables) (p' : Phase) (n : ℕ) → First (values_of d) (marks_of b) None → state ts' resting ≡ written d.side (values_of d) (state ts resting) → p' ≡ Resting → n ≡ claims (values_of d)
+    pub entered : (ts' : Tables) (p' : Phase) (n : ℕ) → First (values_of d.claims) (marks_of d) None → state ts' resting ≡ written d.claims.side (values_of d.claims) (state ts resting) → p' ≡ Resting → n ≡ claims (values_of d.claims)
         → Step m (top_in ts) before (call_of k) (Ok (count n)) (state ts' (phase_of p'))
     entered ts' p' n none ets rests en =
-        rw (is, rests, ets, en, written_any d.side (values_of d) ts resting (phase_of p)) (enter_all m (top_in ts) before d.side (values_of d) (marks_of b) (ap phase_of ph) none)
+        rw (is, rests, ets, en, written_any d.claims.side (values_of d.claims) ts resting (phase_of p)) (enter_all m (top_in ts) before d.claims.side (values_of d.claims) (marks_of d) (ap phase_of ph) none)

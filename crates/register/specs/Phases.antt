@@ -1,18 +1,33 @@
 -- What a register's phase stands for.
-use Rattle.std.specs.Prelude.{ℕ}
+use Rattle.std.specs.Prelude.{ℕ, ⊤}
+use Rattle.std.specs.Coded.{Unit-prop}
+use Rattle.std.proofs.Props.{props}
 use Rattle.history.specs.Rules
 use Rattle.history.specs.Rules.{resting, claiming, showing}
 use Rattle.claims.specs.Views.{values_of, marks_of, highest}
 use Rattle.register.specs.declared.phase.Phase.{Phase}
 use Rattle.register.specs.declared.phase.Phase.TheVariants.{Resting, Claiming, Showing}
+use Rattle.register.specs.declared.tables.Tables.{Tables}
+use Rattle.register.specs.Tables.{LaidOver}
 
 abbrev pub phase_of : Phase → Rules.Phase
 phase_of Resting = resting
 phase_of (Claiming c) = claiming c.side (values_of c)
-phase_of (Showing c b) = showing c.side (values_of c) (marks_of b)
+phase_of (Showing d) = showing d.claims.side (values_of d.claims) (marks_of d)
 
 -- the greatest value that the draft claims, 0 where there is none
 abbrev pub highest_in : Phase → ℕ
 highest_in Resting = 0
 highest_in (Claiming c) = highest c.values
-highest_in (Showing c b) = highest c.values
+highest_in (Showing d) = highest d.claims.values
+
+-- a draft that takes showings has the table in which they are weighed
+abbrev pub Laid : Tables → Phase → Type 0
+Laid ts Resting = ⊤
+Laid ts (Claiming c) = ⊤
+Laid ts (Showing d) = LaidOver ts d
+
+pub Laid-prop : (ts : Tables) (p : Phase) → IsProp (Laid ts p)
+Laid-prop ts Resting = Unit-prop
+Laid-prop ts (Claiming c) = Unit-prop
+Laid-prop ts (Showing d) = Prim.hlevel props

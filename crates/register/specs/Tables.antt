@@ -1,9 +1,11 @@
 -- What the two tables of a register stand for.
-use Rattle.std.specs.Prelude.{ℕ, Bool, ◌||◌, nat_lt}
+use Rattle.std.specs.Prelude.{◌≡◌, ℕ, Bool, ◌||◌, nat_lt}
 use Rattle.chart.specs.declared.side.Side.{Side}
 use Rattle.chart.specs.declared.side.Side.TheVariants.{Upper, Lower}
 use Rattle.chart.specs.Tables.{distances}
-use Rattle.history.specs.Rules.{State, Phase}
+use Rattle.history.specs.Rules.{State, Phase, resting, side_of, laid, over}
+use Rattle.claims.specs.declared.closed.ClosedDraft.{ClosedDraft}
+use Rattle.claims.specs.Views.{values_of}
 use Rattle.register.specs.declared.tables.Tables.{Tables}
 
 -- the top of both
@@ -18,3 +20,7 @@ state ts p = record { upper = (distances ts.upper).entry; lower = (distances ts.
 abbrev pub unfit : Side → ℕ → ℕ → ℕ → Bool
 unfit Upper top entry v = nat_lt entry v
 unfit Lower top entry v = nat_lt v entry || nat_lt top v
+
+-- the draft has the table of its side with its claims laid over it
+abbrev pub LaidOver : Tables → ClosedDraft → Type 0
+LaidOver ts d = distances d.laid ≡ over (top_in ts) (laid (values_of d.claims) (side_of d.claims.side (state ts resting)))

@@ -1,5 +1,5 @@
+use claims::closed::ClosedDraft;
 use claims::draft::Claims;
-use claims::marks::Marks;
 
 mod ending;
 
@@ -10,6 +10,6 @@ pub enum Phase {
     Resting,
     /// A draft takes claims.
     Claiming(Claims),
-    /// A draft takes showings of its claims, and marks those that are shown.
-    Showing(Claims, Marks),
+    /// A draft takes showings of its claims.
+    Showing(ClosedDraft),
 }

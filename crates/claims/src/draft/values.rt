@@ -16,6 +16,7 @@ impl Claims {
     {
         Claims {
             side,
+            count: 0,
             values: [None; CELLS],
         }
     }
@@ -41,9 +42,10 @@ impl Claims {
         ensures outside { (32 ≤ s) ⊎ (32 ≤ t) → self.new ≡ self.old }
         ensures most { highest self.new.values ≤ max (highest self.old.values) value }
     {
-        // As in `Marks::mark`, but for the type of a cell: a struct of cells of any type would have the same lines.
         if let Some(i) = cell_index(s, t) {
-            self.values[i] = Some(value);
+            if self.values[i].replace(value).is_none() {
+                self.count += 1;
+            }
         }
     }
 
@@ -51,8 +53,7 @@ impl Claims {
     pub fn count(&self) -> u32
         ensures { result ≡ claims (values_of self.now) }
     {
-        // `as`: there are at most 1,024.
-        self.values.iter().filter(|value| value.is_some()).count() as u32
+        self.count
     }
 
     /// The table with the claims laid over it; a value above the top counts as the top.

@@ -5,13 +5,11 @@ ghost use Rattle.register.specs.Contents.{held_in, top_within};
 
 use crate::call::Call;
 use crate::contents::Contents;
-use crate::drafts::Draft;
 use crate::drafts::claiming::claim;
+use crate::drafts::showing::show;
 use crate::phase::Phase;
 use chart::kind::Chart;
 use claims::draft::Claims;
-use claims::marks::Marks;
-use claims::unshown::first_unshown;
 use history::refusal::Refusal;
 
 impl<C: Chart> Contents<C> {
@@ -38,24 +36,19 @@ impl<C: Chart> Contents<C> {
                 if n == 0 {
                     return Err(Refusal::NoClaims);
                 }
-                self.phase = Phase::Showing(*claims, Marks::none());
+                self.phase = Phase::Showing(self.tables.close(*claims));
                 Ok(n)
             }
             (_, Call::Close) => Err(Refusal::CloseNotClaiming),
-            (Phase::Showing(claims, marks), Call::Show { s, t, words }) => {
-                let draft = Draft {
-                    chart: &self.chart,
-                    tables: &self.tables,
-                    claims,
-                };
-                draft.show(marks, s, t, words)
+            (Phase::Showing(draft), Call::Show { s, t, words }) => {
+                show(&self.chart, draft, s, t, words)
             }
             (_, Call::Show { .. }) => Err(Refusal::NotShowing),
-            (Phase::Showing(claims, marks), Call::Enter) => {
-                if let Some((s, t)) = first_unshown(claims, marks) {
+            (Phase::Showing(draft), Call::Enter) => {
+                if let Some((s, t)) = draft.first_unshown() {
                     return Err(Refusal::Unshown(s, t));
                 }
-                self.tables.write(claims);
+                self.tables.write(draft.claims());
                 Ok(self.phase.forget())
             }
             (_, Call::Enter) => Err(Refusal::EnterNotShowing),

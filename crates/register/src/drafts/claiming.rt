@@ -12,8 +12,6 @@ use chart::kind::Chart;
 use claims::draft::Claims;
 use history::refusal::Refusal;
 
-// Not a method of a struct that lends the three, as `Draft` does: no plainer, since no fact joins them here and the claims change.
-
 /// Claims a value for a pair. It answers how many claims the draft has then.
 #[tactic(auto, using(crate::proofs::Steps::claim_outside, crate::proofs::Steps::claim_apart, crate::proofs::Steps::inside_both, crate::proofs::Steps::outside_one))]
 pub(crate) fn claim<C: Chart>(

@@ -13,7 +13,7 @@ impl Phase {
         match self {
             Phase::Resting => 0,
             Phase::Claiming(claims) => claims.count(),
-            Phase::Showing(claims, _) => claims.count(),
+            Phase::Showing(draft) => draft.claims().count(),
         }
     }
 

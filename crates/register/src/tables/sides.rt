@@ -1,16 +1,17 @@
-ghost use Rattle.std.specs.Prelude.{◌≡◌, ◌≤◌};
+ghost use Rattle.std.specs.Prelude.{◌≡◌, ◌≤◌, false};
 ghost use Rattle.chart.specs.Tables.{distances};
 ghost use Rattle.chart.specs.Starting.{start_table};
 ghost use Rattle.chart.specs.declared.side.Side.TheVariants.{Upper, Lower};
 ghost use Rattle.history.specs.Rules.{resting, side_of, over, written};
-ghost use Rattle.claims.specs.Views.{values_of, highest};
-ghost use Rattle.register.specs.Tables.{top_in, state, unfit};
+ghost use Rattle.claims.specs.Views.{values_of, marks_of, highest};
+ghost use Rattle.register.specs.Tables.{top_in, state, unfit, LaidOver};
 
 use crate::tables::Tables;
 use chart::kind::Chart;
 use chart::side::Side;
 use chart::table::Table;
 use chart::top::Top;
+use claims::closed::ClosedDraft;
 use claims::draft::Claims;
 
 impl Tables {
@@ -53,7 +54,17 @@ impl Tables {
         }
     }
 
-    // The bound stays a `requires`: a struct that lent the tables and the claims for this one call would be no plainer.
+    // The bound stays a `requires` of these two: a struct that lent the tables and the claims for one call would be no plainer.
+
+    /// The draft of these claims, closed: none is shown, and showings are weighed in the table of their side with all of them laid over it.
+    pub(crate) fn close(&self, claims: Claims) -> ClosedDraft
+        requires { highest claims.values ≤ top_in self.now }
+        ensures same { result.claims ≡ claims }
+        ensures none { marks_of result ≡ (λ s t. false) }
+        ensures laid { LaidOver self.now result }
+    {
+        ClosedDraft::new(claims, self.of(claims.side()))
+    }
 
     /// Writes the claims into the table of their side.
     pub(crate) fn write(&mut self, claims: &Claims)
