@@ -9,8 +9,8 @@ use Rattle.weighted.specs.Soundness.{sound as chain_sound}
 use Rattle.choice.specs.View.{system as system_of}
 use Rattle.choice.specs.Soundness.{sound as system_sound}
 use Rattle.file_charts.specs.declared.fault.FileFault.TheVariants as fault
-use Rattle.file_charts.specs.declared.chart.FileChart.{FileChart}
-use Rattle.file_charts.specs.declared.chart.FileChart.TheVariants.{Weighted, Choice}
+use Rattle.file_charts.specs.declared.charts.FileChart.{FileChart}
+use Rattle.file_charts.specs.declared.charts.FileChart.TheVariants.{Weighted, Choice}
 use Rattle.file_charts.specs.Faults.{fault_numbers}
 use Rattle.file_charts.specs.Registers.{RegistersBound, SettledIsDistance}
 

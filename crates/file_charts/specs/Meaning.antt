@@ -7,8 +7,8 @@ use Rattle.weighted.specs.View.{chain as chain_of}
 use Rattle.choice.specs.View.{system as system_of}
 use Rattle.file_charts.specs.declared.fault.FileFault.{FileFault}
 use Rattle.file_charts.specs.declared.fault.FileFault.TheVariants as fault
-use Rattle.file_charts.specs.declared.chart.FileChart.{FileChart}
-use Rattle.file_charts.specs.declared.chart.FileChart.TheVariants.{Weighted, Choice}
+use Rattle.file_charts.specs.declared.charts.FileChart.{FileChart}
+use Rattle.file_charts.specs.declared.charts.FileChart.TheVariants.{Weighted, Choice}
 use Rattle.file_charts.specs.Faults.{fault_numbers}
 
 abbrev pub means : FileChart → Meaning FileFault

@@ -7,8 +7,8 @@ use Rattle.weighted.specs.View.{chain}
 use Rattle.weighted.specs.Reading as weighted
 use Rattle.choice.specs.View.{system}
 use Rattle.choice.specs.Reading as choice
-use Rattle.file_charts.specs.declared.chart.FileChart.{FileChart}
-use Rattle.file_charts.specs.declared.chart.FileChart.TheVariants.{Weighted, Choice}
+use Rattle.file_charts.specs.declared.charts.FileChart.{FileChart}
+use Rattle.file_charts.specs.declared.charts.FileChart.TheVariants.{Weighted, Choice}
 
 -- the weighted chart that the file holds, or why it holds none
 abbrev pub ReadAsWeighted : List ℕ → Result FileChart ReadRefusal → Type 0

@@ -6,8 +6,8 @@ use Rattle.chain.specs.Registers as chain
 use Rattle.transitions.specs.Registers as transitions
 use Rattle.weighted.specs.View.{chain as chain_of}
 use Rattle.choice.specs.View.{system as system_of}
-use Rattle.file_charts.specs.declared.chart.FileChart.{FileChart}
-use Rattle.file_charts.specs.declared.chart.FileChart.TheVariants.{Weighted, Choice}
+use Rattle.file_charts.specs.declared.charts.FileChart.{FileChart}
+use Rattle.file_charts.specs.declared.charts.FileChart.TheVariants.{Weighted, Choice}
 use Rattle.file_charts.specs.Meaning.{means}
 
 -- in every register over the chart, over every top and after every history, the entries bound the distances from both sides, as the chart's kind has it

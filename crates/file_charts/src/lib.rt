@@ -2,5 +2,5 @@
 
 #![tactic(auto)]
 
-pub mod chart;
+pub mod charts;
 pub mod fault;

@@ -1,9 +1,8 @@
 -- What a register's phase stands for.
-use Rattle.std.specs.Prelude.{ℕ, ⊤}
-use Rattle.std.specs.Coded.{Unit-prop}
-use Rattle.std.proofs.Props.{props}
+use Rattle.std.specs.Prelude.{◌≡◌, ℕ}
 use Rattle.history.specs.Rules
 use Rattle.history.specs.Rules.{resting, claiming, showing}
+use Rattle.claims.specs.declared.closed.ClosedDraft.{ClosedDraft}
 use Rattle.claims.specs.Views.{values_of, marks_of, highest}
 use Rattle.register.specs.declared.phase.Phase.{Phase}
 use Rattle.register.specs.declared.phase.Phase.TheVariants.{Resting, Claiming, Showing}
@@ -23,11 +22,4 @@ highest_in (Showing d) = highest d.claims.values
 
 -- a draft that takes showings has the table in which they are weighed
 abbrev pub Laid : Tables → Phase → Type 0
-Laid ts Resting = ⊤
-Laid ts (Claiming c) = ⊤
-Laid ts (Showing d) = LaidOver ts d
-
-pub Laid-prop : (ts : Tables) (p : Phase) → IsProp (Laid ts p)
-Laid-prop ts Resting = Unit-prop
-Laid-prop ts (Claiming c) = Unit-prop
-Laid-prop ts (Showing d) = Prim.hlevel props
+Laid ts p = (d : ClosedDraft) → p ≡ Showing d → LaidOver ts d

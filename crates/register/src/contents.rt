@@ -1,5 +1,5 @@
 ghost use Rattle.std.specs.Prelude.{◌≤◌};
-ghost use Rattle.register.specs.Phases.{highest_in, Laid, Laid-prop};
+ghost use Rattle.register.specs.Phases.{highest_in, Laid};
 ghost use Rattle.register.specs.Tables.{top_in};
 
 use crate::phase::Phase;
@@ -15,5 +15,5 @@ pub struct Contents<C: Chart> {
     pub(crate) tables: Tables,
     pub(crate) phase: Phase,
     ghost within: { highest_in phase ≤ top_in tables },
-    ghost laid: { Laid tables phase } by { Laid-prop tables phase },
+    ghost laid: { Laid tables phase },
 }

@@ -13,7 +13,7 @@ mod session;
 use chart::kind::Chart;
 use chart::top::{Top, TopRefusal};
 use failure::Failure;
-use file_charts::chart::FileChart;
+use file_charts::charts::FileChart;
 use lines::numerals::read_number;
 use register::register::Register;
 use session::settle_lines;

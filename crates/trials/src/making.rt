@@ -2,7 +2,7 @@ use crate::failure::Failure;
 use crate::register_of::{RegisterOf, Two};
 use chart::kind::Chart;
 use chart::top::Top;
-use file_charts::chart::FileChart;
+use file_charts::charts::FileChart;
 use files::refusal::ReadRefusal;
 use register::register::Register;
 use sittings::two::Sittings;

@@ -2,7 +2,7 @@ use crate::failure::Failure;
 use chart::kind::Chart;
 use choice::charts::Choice;
 use commands::line::read_line;
-use file_charts::chart::FileChart;
+use file_charts::charts::FileChart;
 use register::register::Register;
 use script::play::play;
 use script::report::{Outcomes, rows, tally};

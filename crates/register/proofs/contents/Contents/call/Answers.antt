@@ -3,16 +3,16 @@ use Rattle.register.proofs.Playing.{closed_empty, closed, entered_first, entered
 use Rattle.register.proofs.contents.Contents.call.Goals as goal
 
 pub invariant_of-self-in_default-Open-clause-laid : goal.invariant_of-self-in_default-Open-clause-laid
-invariant_of-self-in_default-Open-clause-laid g c = tt
+invariant_of-self-in_default-Open-clause-laid g c = λ d e. absurd (cc)
 
 pub invariant_of-self-in-Claim-this-clause-laid : goal.invariant_of-self-in-Claim-this-clause-laid
-invariant_of-self-in-Claim-this-clause-laid g c = tt
+invariant_of-self-in-Claim-this-clause-laid g c = λ d e. absurd (cc)
 
 pub invariant_of-self-in_default-Show-2-clause-laid : goal.invariant_of-self-in_default-Show-2-clause-laid
-invariant_of-self-in_default-Show-2-clause-laid g c = tt
+invariant_of-self-in_default-Show-2-clause-laid g c = λ d e. absurd (cc)
 
 pub invariant_of-self-in_default-Enter-2-clause-laid : goal.invariant_of-self-in_default-Enter-2-clause-laid
-invariant_of-self-in_default-Enter-2-clause-laid g c = tt
+invariant_of-self-in_default-Enter-2-clause-laid g c = λ d e. absurd (cc)
 
 pub returns-then-n-eq0-clause-rule : goal.returns-then-n-eq0-clause-rule
 returns-then-n-eq0-clause-rule g c =

@@ -1,6 +1,6 @@
-use Rattle.file_charts.specs.declared.chart.FileChart.TheVariants.{Weighted, Choice}
+use Rattle.file_charts.specs.declared.charts.FileChart.TheVariants.{Weighted, Choice}
 use Rattle.file_charts.proofs.Registers.{registers_bound, settled_is_distance}
-use Rattle.file_charts.proofs.chart.FileChart.read.Goals as goal
+use Rattle.file_charts.proofs.charts.FileChart.read.Goals as goal
 
 pub returns-in_ok-read-in-Some-Choice-clause-bounds : goal.returns-in_ok-read-in-Some-Choice-clause-bounds
 returns-in_ok-read-in-Some-Choice-clause-bounds c = registers_bound (Choice c.read.new.self)

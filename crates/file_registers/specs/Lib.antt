@@ -1,0 +1,4 @@
+pub mod Outcomes
+pub mod Faults
+pub mod Registers
+pub mod Making
