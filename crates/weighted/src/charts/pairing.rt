@@ -1,4 +1,4 @@
-ghost use Rattle.std.specs.Prelude.{◌≡◌, ◌+◌, ◌-◌, ◌*◌, ◌%◌, ◌<◌, ◌≤◌, true, not, ◌||◌, length, pos, Some, MatchResult, ◌==◌, nat_lt, slice_index};
+ghost use Rattle.std.specs.Prelude.{◌≡◌, ℕ, ◌+◌, ◌-◌, ◌*◌, ◌%◌, ◌<◌, ◌≤◌, true, not, ◌||◌, length, pos, Some, MatchResult, ◌==◌, nat_lt, slice_index};
 ghost use Rattle.std.specs.Option.{option_map};
 ghost use Rattle.finite.specs.Search.{least};
 ghost use Rattle.chart.specs.Tables.{distances};
@@ -108,11 +108,28 @@ impl Weighted {
         Ok(Gathered { left, right, total })
     }
 
+    /// Whether the amounts at each section are its part in row `s`.
+    // A quick look at the whole row, with no branches, before a search for the first that is not.
+    fn is_row(&self, s: usize, amounts: &[u32; SECTIONS]) -> bool
+        requires { s < self.now.n }
+        ensures { result ≡ true → (u : ℕ) → u < self.now.n → slice_index amounts.now u ≡ (chain self.now).part s u }
+    {
+        let row = &self.rows[s];
+        let mut differs = false;
+        for u in 0..self.n {
+            differs |= amounts[u] != u32::from(row[u]);
+        }
+        !differs
+    }
+
     /// The first section whose amounts are not its part in row `s`.
     fn find_margin(&self, s: usize, amounts: &[u32; SECTIONS]) -> Option<usize>
         requires { s < self.now.n }
         ensures { result ≡ least self.now.n (λ u. not (slice_index amounts.now u == (chain self.now).part s u)) }
     {
+        if self.is_row(s, amounts) {
+            return None;
+        }
         amounts[..self.n]
             .iter()
             .zip(&self.rows[s])
