@@ -13,7 +13,6 @@ use crate::charts::Weighted;
 use crate::charts::potentials::Potentials;
 use chain::fault::Fault;
 use chart::table::{SECTIONS, Table};
-use std::array;
 
 /// The first word that is further from 0 than the top.
 fn find_wide(words: &[i32], top: u32) -> Option<usize>
@@ -52,14 +51,28 @@ fn row_fits(d: &Table, u: usize, alpha: i32, bounds: &[i32; SECTIONS]) -> bool
 impl Potentials<'_> {
     /// The potential of a section on the second side where it is a successor there, and else the lowest there is.
     fn bound(&self, v: usize) -> i32
-        requires { v < 32 }
+        requires { v < self.now.chart.now.n }
         ensures narrow { Narrow result }
-        ensures same { v < self.now.chart.now.n → 0 < (chain self.now.chart.now).part self.now.t v → result ≡ word self.now.words.now (self.now.chart.now.n + v) }
+        ensures same { 0 < (chain self.now.chart.now).part self.now.t v → result ≡ word self.now.words.now (self.now.chart.now.n + v) }
     {
-        match self.words.get(self.chart.n + v) {
-            Some(beta) if self.chart.rows[self.t][v] > 0 => *beta,
-            _ => LOWEST,
+        let beta = self.words[self.chart.n + v];
+        if self.chart.rows[self.t][v] > 0 {
+            beta
+        } else {
+            LOWEST
         }
+    }
+
+    /// That of each section, and the lowest where there is none.
+    fn bounds(&self) -> [i32; SECTIONS]
+        ensures narrow { (v : ℕ) → Narrow (word result v) }
+        ensures same { (v : ℕ) → v < self.now.chart.now.n → 0 < (chain self.now.chart.now).part self.now.t v → word result v ≡ word self.now.words.now (self.now.chart.now.n + v) }
+    {
+        let mut bounds = [LOWEST; SECTIONS];
+        for v in 0..self.chart.n {
+            bounds[v] = self.bound(v);
+        }
+        bounds
     }
 
     /// The place of the first pair of successors, by `u` and then by `v`, whose potentials add up to more than its entry.
@@ -69,7 +82,7 @@ impl Potentials<'_> {
         let (alphas, betas) = self.words.split_at(self.chart.n);
         let first = &self.chart.rows[self.s];
         let second = &self.chart.rows[self.t];
-        let bounds: [i32; SECTIONS] = array::from_fn(|v| self.bound(v));
+        let bounds = self.bounds();
         let mut found = None;
         // By a rule of the project, the scan under the table is two loops that a label leaves.
         'scan: for (u, alpha) in alphas.iter().enumerate() {

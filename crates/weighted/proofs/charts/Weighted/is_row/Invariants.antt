@@ -1,6 +1,5 @@
 use Rattle.std.proofs.Common.{◌≡◌, ℕ, ◌<◌, false}
 use Rattle.std.specs.List.{slice_index}
-use Rattle.weighted.specs.View.{chain}
 use Rattle.weighted.proofs.charts.Weighted.is_row.Given as goal
 
 -- before u none differs

@@ -1,16 +1,13 @@
 use Rattle.std.proofs.Common.{◌≡◌, ℕ, ◌+◌, ◌*◌, ◌<◌, ◌≤◌, Bool, true, false, ◌&&◌, ltb, List, get_or, take, drop, ℤ, pos, ◌+ℤ◌, ◌≤ℤ◌, sym, ◌∙◌, mul-le-mul_right, w32, SFits, to_z, of_z, rules, arith}
 use lib.Signed.{lt_z}
-use borrow.Author.Differences.{ints}
 use Rattle.std.proofs.lemmas.Int.{to_z-of_z}
 use Rattle.std.proofs.lemmas.List.{get_or-take, get_or-drop}
-use Rattle.finite.proofs.Lists.{made_everywhere}
 use Rattle.finite.proofs.Search.{least_none}
 use Rattle.chart.specs.declared.table.Table.{Table}
 use Rattle.chart.specs.Tables.{distances}
 use Rattle.chain.specs.Potentials.{above}
 use Rattle.chart.specs.Words.{word}
 use Rattle.chain.proofs.Valid.{above_first, not_above}
-use Rattle.weighted.specs.Bounds.{Narrow}
 use Rattle.weighted.specs.declared.charts.potentials.Potentials.{Potentials}
 use Rattle.weighted.specs.View.{chain}
 use Rattle.weighted.proofs.Scan.{clear_cell, clear_skip, scan_found}
@@ -34,24 +31,16 @@ scan-preserved-then-first-u-eq0 c =
     let d = c.args.d.now in
     (c.scan.invariant.0, clear_skip o.chart.now.n (bad o d) c.scan.u c.scan.invariant.1 (λ v l. above_first (chain o.chart.now) (distances d) o.s o.t o.words.now c.scan.u v c.if-first-u-eq0.true))
 
--- what a bound is
-abbrev bound_is : Potentials → ℕ → ℤ → Type 0
-bound_is o v y = let n = o.chart.now.n in Narrow y × (v < n → 0 < (chain o.chart.now).part o.t v → y ≡ word o.words.now (n + v))
-
--- there are bounds for as many sections as there may be
-past_bounds : (o : Potentials) (v : ℕ) → 32 ≤ v → bound_is o v (pos 0)
-past_bounds o v past = (omega (arith, ints), λ l some. absurd (omega (arith, past, l, o.chart.now.n_most)))
-
 -- a row of the table that fits has no pair that comes above its entry
 fits_clear : (o : Potentials) (d : Table) (bounds alphas : List ℤ) (u : ℕ) → alphas ≡ take o.chart.now.n o.words.now → u < o.chart.now.n → SFits w32 (get_or alphas u (pos 0))
-    → ((v : ℕ) → bound_is o v (word bounds v))
+    → ((v : ℕ) → v < o.chart.now.n → 0 < (chain o.chart.now).part o.t v → word bounds v ≡ word o.words.now (o.chart.now.n + v))
     → ((v : ℕ) → v < 32 → (to_z w32 (of_z w32 (get_or alphas u (pos 0))) +ℤ word bounds v) ≤ℤ pos ((distances d).entry u v))
     → (v : ℕ) → v < o.chart.now.n → bad o d u v ≡ false
 fits_clear o d bounds alphas u front lu f is fits v lv =
     let n = o.chart.now.n in
     not_above (chain o.chart.now) (distances d) o.s o.t o.words.now u v (λ hu hv.
     let here = fits v (omega (arith, o.chart.now.n_most)) in
-    rw (to_z-of_z w32 (get_or alphas u (pos 0)) f, front, get_or-take n o.words.now u (pos 0) lu, (is v).1 lv hv) at here)
+    rw (to_z-of_z w32 (get_or alphas u (pos 0)) f, front, get_or-take n o.words.now u (pos 0) lu, is v lv hv) at here)
 
 pub row_fits-requires : goal.row_fits-requires
 row_fits-requires c =
@@ -60,7 +49,7 @@ row_fits-requires c =
     let u-in : c.scan.u < n = omega (arith, c.split_at.ensures.front_len) in
     let f : SFits w32 (get_or c.split_at.result.0.now c.scan.u (pos 0)) = search rules in (
       rw (to_z-of_z w32 _ f, c.split_at.ensures.front, get_or-take n o.words.now c.scan.u (pos 0) u-in) (o.narrow c.scan.u),
-      λ v. (made_everywhere c.from_fn-bounds.ensures.items (bound_is o) (λ v y q k. search rules) (pos 0) (past_bounds o) v).0,
+      c.bounds-bounds.ensures.narrow,
     )
 
 pub scan-preserved-then-row_fits : goal.scan-preserved-then-row_fits
@@ -70,8 +59,7 @@ scan-preserved-then-row_fits c =
     let f : SFits w32 (get_or c.split_at.result.0.now c.scan.u (pos 0)) = search rules in (
       c.scan.invariant.0,
       clear_skip o.chart.now.n (bad o c.args.d.now) c.scan.u c.scan.invariant.1
-          (fits_clear o c.args.d.now c.from_fn-bounds.result _ c.scan.u c.split_at.ensures.front u-in f
-          (made_everywhere c.from_fn-bounds.ensures.items (bound_is o) (λ v y q k. search rules) (pos 0) (past_bounds o)) (c.row_fits.ensures c.if-row_fits.true)),
+          (fits_clear o c.args.d.now c.bounds-bounds.result _ c.scan.u c.split_at.ensures.front u-in f c.bounds-bounds.ensures.same (c.row_fits.ensures c.if-row_fits.true)),
     )
 
 pub loop-v-init : goal.loop-v-init
