@@ -1,4 +1,4 @@
-ghost use Rattle.std.specs.Prelude.{◌≡◌, ℕ, ◌+◌, ◌*◌, ◌/◌, ◌%◌, ◌<◌, ◌&&◌, true, length, pos, ◌+ℤ◌, ◌*ℤ◌, neg_ℤ, ◌≤ℤ◌, int_lt, nat_lt};
+ghost use Rattle.std.specs.Prelude.{◌≡◌, ℕ, ◌+◌, ◌*◌, ◌/◌, ◌%◌, ◌<◌, ◌&&◌, true, false, length, pos, ◌+ℤ◌, ◌*ℤ◌, neg_ℤ, ◌≤ℤ◌, int_lt, nat_lt};
 ghost use Rattle.finite.specs.Sums.{sumℤ};
 ghost use Rattle.finite.specs.Search.{least};
 ghost use Rattle.chart.specs.Tables.{distances};
@@ -14,10 +14,25 @@ use crate::charts::potentials::Potentials;
 use chain::fault::Fault;
 use chart::table::{SECTIONS, Table};
 
+/// Whether no word is further from 0 than the top.
+// A quick look at all words, with no branches, before a search for the first that is.
+fn all_within(words: &[i32], top: u32) -> bool
+    ensures { result ≡ true → (i : ℕ) → i < length words.now → outside (neg_ℤ (pos top)) (pos top) (word words.now i) ≡ false }
+{
+    let mut wide = false;
+    for i in 0..words.len() {
+        wide |= words[i].unsigned_abs() > top;
+    }
+    !wide
+}
+
 /// The first word that is further from 0 than the top.
 fn find_wide(words: &[i32], top: u32) -> Option<usize>
     ensures { result ≡ least (length words.now) (λ i. outside (neg_ℤ (pos top)) (pos top) (word words.now i)) }
 {
+    if all_within(words, top) {
+        return None;
+    }
     words.iter().position(|w| w.unsigned_abs() > top)
 }
 
