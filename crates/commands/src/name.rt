@@ -16,7 +16,6 @@ pub(crate) enum Name {
 }
 
 /// The name that a field is.
-#[tactic(auto, using(std::proofs::lemmas::Slice::Eq::text_from_reads))]
 pub(crate) fn read_name(field: &[u8]) -> Option<Name>
     ensures { result ≡ name_of field.now }
 {
