@@ -1,9 +1,9 @@
 -- The sections that a mask marks.
-use Rattle.std.proofs.Common.{◌≡◌, ℕ, zero, suc, ◌+◌, ◌-◌, ◌*◌, ◌^◌, ◌%◌, ◌<◌, ◌≤◌, Bool, true, false, cond, not, ◌&&◌, eqb, is_some, List, [], ◌∷◌, get_or, ℤ, pos, negsuc, Some, None, Option, MatchOption, bit_and, bit_or, w32, min, refl, ap, sym, ◌∙◌, ⊎_elim, add-one, arith}
+use Rattle.std.proofs.Common.{◌≡◌, ℕ, zero, suc, ◌+◌, ◌-◌, ◌*◌, ◌^◌, ◌%◌, ◌<◌, ◌≤◌, Bool, true, false, cond, not, ◌≢◌, ◌&&◌, eqb, is_some, List, [], ◌∷◌, get_or, ℤ, pos, negsuc, Some, None, Option, MatchOption, bit_and, bit_or, w32, min, refl, ap, sym, ◌∙◌, ⊎_elim, add-one, arith}
 use Rattle.std.specs.Int.{bit_at, bit_not, trailing_zeros}
 use Rattle.std.proofs.lemmas.Bool.{cases_eq, cases_lt, eq-eqb, ne_eqb, lt-ltb, le-ltb}
 use Rattle.std.proofs.lemmas.Nat.{and_le_l}
-use Rattle.std.proofs.lemmas.Nat.Bits.{bit_at-zero, bit_at-lt, bit_at_and, bit_at_not, bit_at-trailing_zeros, bit_at_set_same, bit_at_set_other, bit_at_above}
+use Rattle.std.proofs.lemmas.Nat.Bits.{bit_at-zero, bit_at-lt, bit_at_and, bit_at_not, bit_at-trailing_zeros, bit_at_set_same, bit_at_set_other, bit_at_above, bit_at_clear_same, bit_at_clear_other}
 use Rattle.finite.specs.Search.{least, given, first_of}
 use Rattle.finite.proofs.Search.{least_at, least_same, least_none, least_none_at, least_found}
 use Rattle.transitions.specs.System.{successor}
@@ -55,6 +55,12 @@ module _ (w : Choice) (s mask : ℕ) (mask_is : mask ≡ get_or w.masks s 0) whe
       least_same w.n _ (λ u. marks mask u && not (marks got u)) (λ u l. rw (successor_is u, h u (omega (arith, w.n_most))) refl)
       ∙ least_wider w.n 32 _ w.n_most (λ u from. rw (outside u from) refl)
 
+  -- a search among the successors is one among the sections that the mask marks
+  pub same_test : (p : ℕ → Bool) → least w.n (λ y. successor (system w) s y && p y) ≡ least 32 (λ y. marks mask y && p y)
+  same_test p =
+      least_same w.n _ (λ y. marks mask y && p y) (λ y l. rw (successor_is y) refl)
+      ∙ least_wider w.n 32 _ w.n_most (λ y from. rw (outside y from) refl)
+
 -- of two bits, the first is 1 and the second is not
 left_bit : (x y : ℕ) → x < 2 → y < 2 → eqb (min x (1 - y)) 1 ≡ (eqb x 1 && not (eqb y 1))
 left_bit zero y k l = let e : min 0 (1 - y) ≡ 0 = omega arith in rw e refl
@@ -79,6 +85,51 @@ module _ (mask paired : ℕ) (paired_fits : paired < 2 ^ 32) where
   lowest_unpaired mask_fits some =
       let h = bit_at-trailing_zeros w32 unpaired some (omega (arith, and_le_l mask (bit_not w32 paired))) in
       sym (least_found 32 _ _ h.0 (left_is _ h.0 ∙ same_mark h.1) (λ k l. left_is k (omega (arith, h.0)) ∙ same_mark (h.2 k l)))
+
+-- Of the sections that a mask marks, those in rest are still to be tested, and of the others none passes.
+module _ (mask : ℕ) (p : ℕ → Bool) where
+  abbrev pub Left : ℕ → Type 0
+  Left rest = (rest < 2 ^ 32) × ((x : ℕ) → marks rest x ≡ true → marks mask x ≡ true) × ((x : ℕ) → x < 32 → marks mask x ≡ true → marks rest x ≡ false → p x ≡ false)
+
+  pub all_left : mask < 2 ^ 32 → Left mask
+  all_left fits = (fits, λ x m. m, λ x l m r. cc)
+
+  clear : (b : Bool) (x : ℕ) → (b ≡ true → p x ≡ false) → (b && p x) ≡ false
+  clear true x h = h refl
+  clear false x h = refl
+
+  pub none_left : Left 0 → None ≡ least 32 (λ x. marks mask x && p x)
+  none_left left = sym (least_none 32 _ (λ x l. clear (marks mask x) x (λ m. left.2 x l m (same_mark (bit_at-zero x)))))
+
+  module _ (rest : ℕ) (left : Left rest) (some : 0 < rest) where
+    abbrev y : ℕ
+    y = trailing_zeros w32 rest
+
+    lowest : (y < 32) × (bit_at rest y ≡ 1) × ((x : ℕ) → x < y → bit_at rest x ≡ 0)
+    lowest = bit_at-trailing_zeros w32 rest some left.0
+
+    abbrev without : ℕ
+    without = bit_and rest (bit_not w32 (1 * 2 ^ y % 2 ^ 32))
+
+    pub first_left : p y ≡ true → Some y ≡ least 32 (λ x. marks mask x && p x)
+    first_left passes =
+        let marked = left.1 y (same_mark lowest.1) in
+        sym (least_found 32 _ y lowest.0 (rw (marked, passes) refl) (λ x l. clear (marks mask x) x (λ m. left.2 x (omega (arith, l, lowest.0)) m (same_mark (lowest.2 x l)))))
+
+    pub smaller : without < rest
+    smaller =
+        let apart : without ≢ rest = λ e. let bits : bit_at without y ≡ bit_at rest y = ap (λ z. bit_at z y) e in omega (arith, bits, lowest.1, bit_at_clear_same w32 rest y lowest.0) in
+        omega (arith, and_le_l rest (bit_not w32 (1 * 2 ^ y % 2 ^ 32)), apart)
+
+    pub next_left : p y ≡ false → Left without
+    next_left fails = (
+      omega (arith, smaller, left.0),
+      λ x m. ⊎_elim (λ l. ⊎_elim (λ e. left.1 x (rw e (same_mark lowest.1)))
+          (λ d. left.1 x (sym (same_mark (bit_at_clear_other w32 rest y lowest.0 x l d)) ∙ m)) (cases_eq x y))
+          (λ from. cc (m, marks_none without 32 x (omega (arith, smaller, left.0)) from)) (cases_lt x 32),
+      λ x l m r. ⊎_elim (λ e. rw e fails)
+          (λ d. left.2 x l m (sym (same_mark (bit_at_clear_other w32 rest y lowest.0 x l d)) ∙ r)) (cases_eq x y),
+    )
 
 -- one place more is searched
 some_more : (j : ℕ) (p : ℕ → Bool) → is_some (least (suc j) p) ≡ cond (p j) true (is_some (least j p))

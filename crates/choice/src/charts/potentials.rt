@@ -85,8 +85,16 @@ impl Choice {
     fn find_below(&self, d: &Table, other: usize, potentials: &Potentials) -> Option<usize>
         ensures { let p = potentials.now in result ≡ least self.now.n (λ y. successor (system self.now) other y && nat_lt (facing (distances d.now) (number p.side) p.section y) p.floor) }
     {
-        (0..self.n).find(|y| self.has_successor(other, *y)
-            && potentials.entry(d, *y) < potentials.floor)
+        // The successors that are not looked at yet.
+        let mut rest = self.mask(other);
+        while rest != 0 {
+            let y = rest.trailing_zeros() as usize;
+            if potentials.entry(d, y) < potentials.floor {
+                return Some(y);
+            }
+            rest &= !(1 << y);
+        }
+        None
     }
 
     /// A floor, discounted and rounded down.
