@@ -340,6 +340,7 @@ PLAYED = [
     ("the greatest claim", split(), TOP, GREATEST, {}),
     ("the least top", WORKED, 1, LEAST, {}),
     ("routes first, and bytes between", worked(routes_at=17, bands_at=60, size=70), 30, [(weigh("upper", 0, 3, [0, 3, 3, 1, 3, 1]), "= 15")], {}),
+    ("the longest file", worked(size=65535), 30, [("ask 0 3", "= 0 30 open")], {}),
     ("one section", chart(1, 1, 2, 1, [0], [[1]]), 1, draft("upper", {(0, 0): (0, [0, 0, 1])}), {(0, 0): (0, 0)}),
     ("each refusal", split(), TOP, REFUSALS, {}),
     ("all calls on 32 sections", split(), TOP,
@@ -411,6 +412,7 @@ REFUSED = [
     ("15 bytes", WORKED[:15], 30, "a.chart refused 1 15 (the file has fewer than 16 bytes)"),
     ("another length", worked(length=51), 30, f"a.chart refused 1 14 ({LENGTH})"),
     ("70,000 bytes", WORKED + bytes(70000), 30, f"a.chart refused 1 14 ({LENGTH})"),
+    ("65,536 bytes", worked(size=65536, length=65535), 30, f"a.chart refused 1 14 ({LENGTH})"),
     ("another kind", worked(kind=3), 30, "a.chart refused 2 0 (the file holds another kind of chart)"),
     ("no sections", chart(0, 1, 2, 4, [], []), 30, f"a.chart refused 3 2 ({SECTIONS})"),
     ("33 sections", chart(33, 1, 2, 1, [0] * 33, [[int(u == s) for u in range(33)] for s in range(33)]), 30, f"a.chart refused 3 2 ({SECTIONS})"),
@@ -440,6 +442,9 @@ REFUSED = [
     ("two charts of other discounts", (THREE, choice(3, 1, 3, [0, 1, 0], [3, 2, 4])), 8, f"the two charts refused 12 ({MISFIT})"),
     ("a second chart of 15 bytes", (THREE, THREE[:15]), 8, "b.chart refused 1 15 (the file has fewer than 16 bytes)"),
     ("15 bytes of a choice chart", THREE[:15], 8, "a.chart refused 1 15 (the file has fewer than 16 bytes)"),
+    ("a chart of 15 bytes, and top 0", WORKED[:15], 0, "a.chart refused 1 15 (the file has fewer than 16 bytes)"),
+    ("two charts, of 15 bytes and of 14", (THREE[:15], THREE[:14]), 8, "a.chart refused 1 15 (the file has fewer than 16 bytes)"),
+    ("two charts of other sections, and top 0", (WORKED, THREE), 0, TOP_REFUSED),
 ]
 
 # what the program writes of examples/worked.calls, before the report
@@ -491,6 +496,14 @@ def weighings():
     return list(itertools.takewhile(lambda line: line.startswith("weigh"), stored))
 
 
+def full(program, folder):
+    """Whether it is told that what is written last, and is all that this run writes, cannot be written."""
+    (folder / "a.chart").write_bytes(WORKED)
+    with open("/dev/full", "w") as out:
+        got = subprocess.run([program, "a.chart", "30"], input="ask 0 3\n", stdout=out, stderr=subprocess.PIPE, text=True, timeout=60, cwd=folder)
+    return (got.stderr, got.returncode) == ("settle: No space left on device (os error 28)\n", 1)
+
+
 def main():
     program = str(pathlib.Path(sys.argv[1]).resolve())
     runs = wrong = 0
@@ -504,6 +517,10 @@ def main():
             if (got.stdout, got.stderr, got.returncode) != want:
                 wrong += 1
                 print(f"tests/run.py: {name}: got {(got.stdout, got.stderr, got.returncode)}, not {want}")
+        runs += 1
+        if not full(program, pathlib.Path(folder)):
+            wrong += 1
+            print("tests/run.py: no room to write: this is not told")
     print(f"tests/run.py: {runs} runs, {wrong} wrong")
     return 1 if wrong else 0
 

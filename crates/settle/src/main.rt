@@ -92,11 +92,9 @@ where
     let mut register = Register::new(chart, top);
     let input = BufReader::new(rt.alloc(), rt.stdin())?;
     let mut out = BufWriter::new(rt.alloc(), rt.stdout())?;
-    let settled = settle_lines(rt.alloc(), &mut register, input, &mut out);
-    // Before `settled?`, so that what was done before a malformed line is printed.
-    let flushed = out.flush();
-    settled?;
-    Ok(flushed?)
+    // Where it fails, what was done before is printed too: a writer that is let go writes what it holds.
+    settle_lines(rt.alloc(), &mut register, input, &mut out)?;
+    Ok(out.flush()?)
 }
 
 /// Plays them for a test that is sat under one chart and then under another.
