@@ -1,6 +1,6 @@
 pub mod Rows
 pub mod View
-pub mod Gathering
+pub mod Triples
 pub mod Reading
 pub mod Soundness
 pub mod Bounds

@@ -9,7 +9,7 @@ ghost use Rattle.chain.specs.declared.fault.Fault.TheVariants.{Section as NoSect
 ghost use Rattle.chain.specs.Pairing.{bad_word, word_fault, least_claim};
 ghost use Rattle.chain.specs.Meaning.{weighed};
 ghost use Rattle.weighted.specs.View.{chain};
-ghost use Rattle.weighted.specs.Gathering.{Reads, Gathers};
+ghost use Rattle.weighted.specs.Triples.{Reads};
 
 use crate::charts::{LONGEST, Weighted};
 use chain::fault::Fault;
@@ -39,14 +39,6 @@ impl Triple {
     }
 }
 
-/// What one pass over the triples of a pairing adds up: the amounts at each section on either side, and each amount times the entry of its pair.
-struct Gathered {
-    // Arrays, since a kind uses no heap; two, since each is compared with a row of its own.
-    left: [u32; SECTIONS],
-    right: [u32; SECTIONS],
-    total: u64,
-}
-
 impl Weighted {
     /// Whether `(s, t)` is no judged pair.
     // Not the trait's `judges`: tried, and refused, since the weighings that the trait calls would then call the trait.
@@ -60,10 +52,13 @@ impl Weighted {
     fn section(&self, word: i32, place: usize) -> Result<usize, Fault>
         ensures { MatchResult result (λ u. (word ≡ pos u) × (u < self.now.n)) (λ f. (f ≡ NoSection place) × (outside (pos 0) (pos (self.now.n - 1)) word ≡ true)) }
     {
-        usize::try_from(word)
-            .ok()
-            .filter(|u| *u < self.n)
-            .ok_or(Fault::Section(place))
+        // One comparison, since a negative word counts as 2^31 or more. `n` is at most 32 by the type: `min` tells the compiler, which then tests no entry's pair.
+        let u = word.cast_unsigned() as usize;
+        if u < self.n.min(SECTIONS) {
+            Ok(u)
+        } else {
+            Err(Fault::Section(place))
+        }
     }
 
     /// The amount that a word is, or the fault at its place.
@@ -71,10 +66,12 @@ impl Weighted {
     fn amount(&self, word: i32, place: usize) -> Result<u32, Fault>
         ensures { MatchResult result (λ x. (word ≡ pos x) × (1 ≤ x) × (x ≤ self.now.whole)) (λ f. (f ≡ NoAmount place) × (outside (pos 1) (pos self.now.whole) word ≡ true)) }
     {
-        u32::try_from(word)
-            .ok()
-            .filter(|x| (1..=u32::from(self.whole)).contains(x))
-            .ok_or(Fault::Amount(place))
+        let x = word.cast_unsigned();
+        if (1..=u32::from(self.whole)).contains(&x) {
+            Ok(x)
+        } else {
+            Err(Fault::Amount(place))
+        }
     }
 
     /// The triple at `j`, or the fault of its first bad word.
@@ -88,24 +85,6 @@ impl Weighted {
             v: self.section(v, 3 * j + 1)?,
             amount: self.amount(amount, 3 * j + 2)?,
         })
-    }
-
-    /// One pass over the triples: the first bad word, or what they add up to.
-    fn gather(&self, d: &Table, words: &[i32]) -> Result<Gathered, Fault>
-        requires { (length words.now % 3 ≡ 0) × (length words.now ≤ LONGEST) }
-        ensures { MatchResult result (Gathers (chain self.now) (distances d.now) words.now) (λ f. option_map word_fault (least (length words.now) (bad_word (chain self.now) words.now)) ≡ Some f) }
-    {
-        let mut left = [0; SECTIONS];
-        let mut right = [0; SECTIONS];
-        let mut total = 0;
-        let (triples, _) = words.as_chunks::<3>();
-        for (j, chunk) in triples.iter().enumerate() {
-            let triple = self.triple(chunk, j)?;
-            left[triple.u] += triple.amount;
-            right[triple.v] += triple.amount;
-            total += triple.cost(d);
-        }
-        Ok(Gathered { left, right, total })
     }
 
     /// Whether the amounts at each section are its part in row `s`.
@@ -161,7 +140,17 @@ impl Weighted {
         if wrong_count(words.len()) {
             return Err(Fault::PairingCount(words.len()));
         }
-        let Gathered { left, right, total } = self.gather(d, words)?;
+        // Arrays, since a kind uses no heap; two, since each is compared with a row of its own.
+        let mut left = [0; SECTIONS];
+        let mut right = [0; SECTIONS];
+        let mut total = 0;
+        let (triples, _) = words.as_chunks::<3>();
+        for (j, chunk) in triples.iter().enumerate() {
+            let triple = self.triple(chunk, j)?;
+            left[triple.u] += triple.amount;
+            right[triple.v] += triple.amount;
+            total += triple.cost(d);
+        }
         if let Some(u) = self.find_margin(s, &left) {
             return Err(Fault::FirstMargin(u));
         }

@@ -5,7 +5,7 @@ use Rattle.chain.specs.Pairing.{left, right, amount}
 use Rattle.weighted.specs.View.{chain}
 use Rattle.weighted.proofs.Tally.{Tallied}
 use Rattle.weighted.proofs.Triples.{Clear}
-use Rattle.weighted.proofs.charts.Weighted.gather.Given as goal
+use Rattle.weighted.proofs.charts.Weighted.weigh_pairing.Given as goal
 
 abbrev pub invariant-loop-j : goal.invariant-loop-j
 invariant-loop-j l = record {
