@@ -1,9 +1,9 @@
 -- The sections that a mask marks.
-use Rattle.std.proofs.Common.{◌≡◌, ℕ, zero, suc, ◌+◌, ◌-◌, ◌*◌, ◌^◌, ◌%◌, ◌<◌, ◌≤◌, Bool, true, false, cond, not, ◌≢◌, ◌&&◌, eqb, is_some, List, [], ◌∷◌, get_or, ℤ, pos, negsuc, Some, None, Option, MatchOption, bit_and, bit_or, w32, min, refl, ap, sym, ◌∙◌, ⊎_elim, add-one, arith}
+use Rattle.std.proofs.Common.{◌≡◌, ℕ, zero, suc, ◌+◌, ◌-◌, ◌*◌, ◌/◌, ◌^◌, ◌%◌, ◌<◌, ◌≤◌, Bool, true, false, cond, not, ◌≢◌, ◌&&◌, eqb, is_some, List, [], ◌∷◌, get_or, ℤ, pos, negsuc, Some, None, Option, MatchOption, bit_and, bit_or, w32, min, refl, ap, sym, ◌∙◌, ⊎_elim, add-one, arith}
 use Rattle.std.specs.Int.{bit_at, bit_not, trailing_zeros}
 use Rattle.std.proofs.lemmas.Bool.{cases_eq, cases_lt, eq-eqb, ne_eqb, lt-ltb, le-ltb}
-use Rattle.std.proofs.lemmas.Nat.{and_le_l}
-use Rattle.std.proofs.lemmas.Nat.Bits.{bit_at-zero, bit_at-lt, bit_at_and, bit_at_not, bit_at-trailing_zeros, bit_at_set_same, bit_at_set_other, bit_at_above, bit_at_clear_same, bit_at_clear_other}
+use Rattle.std.proofs.lemmas.Nat.{and_le_l, and_le_r}
+use Rattle.std.proofs.lemmas.Nat.Bits.{bit_at-zero, bit_at-lt, bit_at_and, bit_at_not, bit_at-suc, bit_at_lowest, bit_at-trailing_zeros, bit_at_set_same, bit_at_set_other, bit_at_above}
 use Rattle.finite.specs.Search.{least, given, first_of}
 use Rattle.finite.proofs.Search.{least_at, least_same, least_none, least_none_at, least_found}
 use Rattle.transitions.specs.System.{successor}
@@ -86,6 +86,34 @@ module _ (mask paired : ℕ) (paired_fits : paired < 2 ^ 32) where
       let h = bit_at-trailing_zeros w32 unpaired some (omega (arith, and_le_l mask (bit_not w32 paired))) in
       sym (least_found 32 _ _ h.0 (left_is _ h.0 ∙ same_mark h.1) (λ k l. left_is k (omega (arith, h.0)) ∙ same_mark (h.2 k l)))
 
+-- Of a number whose lowest 1 is at y, less one: there it has 0, and above the same bits.
+record LessOne (y r : ℕ) : Type 0 where
+  off : bit_at (r - 1) y ≡ 0
+  above : (x : ℕ) → y < x → bit_at (r - 1) x ≡ bit_at r x
+
+less_one_odd : (r : ℕ) → r % 2 ≡ 1 → LessOne 0 r
+less_one_odd r odd = record { off = bit_at_lowest (r - 1) ∙ omega (arith, odd); above = higher } where
+  half : (r - 1) / 2 ≡ r / 2
+  half = omega (arith, odd)
+
+  higher : (x : ℕ) → 0 < x → bit_at (r - 1) x ≡ bit_at r x
+  higher zero l = absurd (omega arith)
+  higher (suc k) l = bit_at-suc (r - 1) k ∙ ap (λ m. bit_at m k) half ∙ sym (bit_at-suc r k)
+
+less_one_even : (y r : ℕ) → r % 2 ≡ 0 → LessOne y (r / 2) → LessOne (suc y) r
+less_one_even y r even halved = record { off = bit_at-suc (r - 1) y ∙ ap (λ m. bit_at m y) half ∙ halved.off; above = higher } where
+  half : (r - 1) / 2 ≡ r / 2 - 1
+  half = omega (arith, even)
+
+  higher : (x : ℕ) → suc y < x → bit_at (r - 1) x ≡ bit_at r x
+  higher zero l = absurd (omega arith)
+  higher (suc k) l = bit_at-suc (r - 1) k ∙ ap (λ m. bit_at m k) half ∙ halved.above k (omega arith) ∙ sym (bit_at-suc r k)
+
+less_one : (y r : ℕ) → bit_at r y ≡ 1 → ((x : ℕ) → x < y → bit_at r x ≡ 0) → LessOne y r
+less_one zero r one below = less_one_odd r (sym (bit_at_lowest r) ∙ one)
+less_one (suc y) r one below =
+    less_one_even y r (sym (bit_at_lowest r) ∙ below 0 (omega arith)) (less_one y (r / 2) (sym (bit_at-suc r y) ∙ one) (λ x l. sym (bit_at-suc r x) ∙ below (suc x) (omega arith)))
+
 -- Of the sections that a mask marks, those in rest are still to be tested, and of the others none passes.
 module _ (mask : ℕ) (p : ℕ → Bool) where
   abbrev pub Left : ℕ → Type 0
@@ -109,7 +137,10 @@ module _ (mask : ℕ) (p : ℕ → Bool) where
     lowest = bit_at-trailing_zeros w32 rest some left.0
 
     abbrev without : ℕ
-    without = bit_and rest (bit_not w32 (1 * 2 ^ y % 2 ^ 32))
+    without = bit_and rest (rest - 1)
+
+    bit_without : (x : ℕ) → bit_at without x ≡ min (bit_at rest x) (bit_at (rest - 1) x)
+    bit_without x = bit_at_and rest (rest - 1) x
 
     pub first_left : p y ≡ true → Some y ≡ least 32 (λ x. marks mask x && p x)
     first_left passes =
@@ -117,18 +148,25 @@ module _ (mask : ℕ) (p : ℕ → Bool) where
         sym (least_found 32 _ y lowest.0 (rw (marked, passes) refl) (λ x l. clear (marks mask x) x (λ m. left.2 x (omega (arith, l, lowest.0)) m (same_mark (lowest.2 x l)))))
 
     pub smaller : without < rest
-    smaller =
-        let apart : without ≢ rest = λ e. let bits : bit_at without y ≡ bit_at rest y = ap (λ z. bit_at z y) e in omega (arith, bits, lowest.1, bit_at_clear_same w32 rest y lowest.0) in
-        omega (arith, and_le_l rest (bit_not w32 (1 * 2 ^ y % 2 ^ 32)), apart)
+    smaller = omega (arith, and_le_r rest (rest - 1))
+
+    low : LessOne y rest
+    low = less_one y rest lowest.1 lowest.2
+
+    cleared : marks without y ≡ false
+    cleared =
+        let none : bit_at without y ≡ 0 = omega (arith, bit_without y, low.off) in same_mark none
+
+    kept : (x : ℕ) → x ≢ y → bit_at without x ≡ bit_at rest x
+    kept x apart =
+        ⊎_elim (λ l. omega (arith, bit_without x, lowest.2 x l))
+        (λ from. let l : y < x = omega (arith, apart) in omega (arith, bit_without x, low.above x l)) (cases_lt x y)
 
     pub next_left : p y ≡ false → Left without
     next_left fails = (
       omega (arith, smaller, left.0),
-      λ x m. ⊎_elim (λ l. ⊎_elim (λ e. left.1 x (rw e (same_mark lowest.1)))
-          (λ d. left.1 x (sym (same_mark (bit_at_clear_other w32 rest y lowest.0 x l d)) ∙ m)) (cases_eq x y))
-          (λ from. cc (m, marks_none without 32 x (omega (arith, smaller, left.0)) from)) (cases_lt x 32),
-      λ x l m r. ⊎_elim (λ e. rw e fails)
-          (λ d. left.2 x l m (sym (same_mark (bit_at_clear_other w32 rest y lowest.0 x l d)) ∙ r)) (cases_eq x y),
+      λ x m. ⊎_elim (λ e. cc (m, cleared, e)) (λ d. left.1 x (sym (same_mark (kept x d)) ∙ m)) (cases_eq x y),
+      λ x l m r. ⊎_elim (λ e. rw e fails) (λ d. left.2 x l m (sym (same_mark (kept x d)) ∙ r)) (cases_eq x y),
     )
 
 -- one place more is searched

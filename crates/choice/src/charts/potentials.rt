@@ -92,7 +92,8 @@ impl Choice {
             if potentials.entry(d, y) < potentials.floor {
                 return Some(y);
             }
-            rest &= !(1 << y);
+            // Without its lowest bit, which is that of `y`.
+            rest &= rest - 1;
         }
         None
     }
