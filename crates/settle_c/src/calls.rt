@@ -21,6 +21,8 @@ pub(crate) fn side(lower: bool) -> Side
 }
 
 /// Plays a call on the register of a handle.
+// Inlined, as what it calls is, so that of the match on the call each function keeps its own case.
+#[inline(always)]
 fn play(heap: Global, handle: &mut Handle, call: Call<'_>) -> Outcome
     ensures plays { Plays handle.old.register (call_of call.entry) result handle.new.register }
     ensures promise { KeepsPromise handle.new.register }

@@ -20,6 +20,7 @@ impl FileRegister {
     }
 
     /// Plays a call: it is accepted and answers a count, or it is refused and changes nothing.
+    #[inline(always)]
     pub fn call(&mut self, call: Call<'_>) -> Outcome
         ensures comes { ComesTo self.old (call_of call.entry) result self.new }
         ensures promise { Keeps self.new }

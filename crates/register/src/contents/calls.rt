@@ -14,6 +14,8 @@ use history::refusal::Refusal;
 
 impl<C: Chart> Contents<C> {
     /// Plays a call: one match on the phase and the call, changed in place.
+    // Inlined, so that a caller who makes one call keeps only its cases of the match.
+    #[inline(always)]
     #[tactic(auto, using(crate::proofs::Idle::idle, crate::proofs::Playing::opened))]
     pub(crate) fn call(&mut self, call: Call<'_>) -> Result<u32, Refusal<C::Fault>>
         ensures chart { self.new.chart ≡ self.old.chart }

@@ -11,6 +11,7 @@ use history::refusal::Refusal;
 
 impl<C: Chart> Register<C> {
     /// Plays a call: it is accepted and answers a count, or it is refused and changes nothing.
+    #[inline(always)]
     pub fn call(&mut self, call: Call<'_>) -> Result<u32, Refusal<C::Fault>>
         ensures chart { chart_of self.new ≡ chart_of self.old }
         ensures top { top_of self.new ≡ top_of self.old }
