@@ -41,8 +41,8 @@ mod tests {
             .expect(rt, "a fit")
     }
 
-    fn top(rt: &impl Abort) -> Top {
-        Top::new(8).ok().expect(rt, "a top")
+    fn top(rt: &impl Abort, number: u64) -> Top {
+        Top::new(number).ok().expect(rt, "a top")
     }
 
     #[test]
@@ -65,7 +65,7 @@ mod tests {
     where
         C::Fault: Display + Drop,
     {
-        let table = Table::starting(chart, side, top(rt));
+        let table = Table::starting(chart, side, top(rt, 8));
         let answer = match chart.weigh(side, &table, 0, 0, words) {
             Ok(claim) => claim.to_string(heap),
             Err(fault) => fault.to_string(heap),
@@ -133,7 +133,7 @@ mod tests {
     #[test]
     fn register(rt: HostRuntime) {
         let heap = rt.alloc();
-        let mut register = Register::new(four(&rt), top(&rt));
+        let mut register = Register::new(four(&rt), top(&rt, 8));
         let (s, t) = (0, 0);
         assert!(&rt; register.call(Call::Open(Side::Upper)).is_ok());
         assert!(&rt; register.call(Call::Claim { s, t, value: 4 }).is_ok());
@@ -148,5 +148,54 @@ mod tests {
         let words = &[3, 0, 0, 1, 6, 2, 0, 0, 0, 0, 1, 0, 0];
         assert!(&rt; register.call(Call::Show { s, t, words }).is_ok());
         assert!(&rt; register.call(Call::Enter).is_ok());
+    }
+
+    /// A weighted chart of four sections, of which section 1 is in a band of its own.
+    fn four_sections(rt: &impl Abort) -> Weighted {
+        let mut chart = Weighted::fresh();
+        let file = [
+            0, 1, 0, 4, 0, 1, 0, 2, 0, 4, 0, 16, 0, 20, 0, 52, 0, 1, 0, 0, 0, 3, 0, 1, 0, 0, 0, 0,
+            0, 0, 0, 4, 0, 0, 0, 0, 0, 0, 0, 2, 0, 2, 0, 0, 0, 0, 0, 0, 0, 0, 0, 4,
+        ];
+        assert!(rt; chart.read(&file).is_ok());
+        chart
+    }
+
+    /// Claims a value for the sections 0 and 3, shows it and enters it.
+    fn enters<C: Chart>(
+        rt: &impl Abort,
+        register: &mut Register<C>,
+        side: Side,
+        value: u32,
+        words: &[i32],
+    )
+    where
+        C::Fault: Drop,
+    {
+        let (s, t) = (0, 3);
+        assert!(rt; register.call(Call::Open(side)).is_ok());
+        assert!(rt; register.call(Call::Claim { s, t, value }).is_ok());
+        assert!(rt; register.call(Call::Close).is_ok());
+        assert!(rt; register.call(Call::Show { s, t, words }).is_ok());
+        assert!(rt; register.call(Call::Enter).is_ok());
+    }
+
+    #[test]
+    fn settled_alike(rt: HostRuntime) {
+        let twice = Sittings::new(four_sections(&rt), four_sections(&rt))
+            .ok()
+            .expect(&rt, "a fit");
+        let mut once = Register::new(four_sections(&rt), top(&rt, 30));
+        let mut twice = Register::new(twice, top(&rt, 60));
+        enters(&rt, &mut once, Side::Upper, 6, &[0, 3, 3, 1, 3, 1]);
+        enters(&rt, &mut once, Side::Lower, 6, &[6, 30, 0, 0, 0, 0, 0, 0]);
+        let words = [6, 0, 3, 3, 1, 3, 1, 0, 3, 3, 1, 3, 1];
+        enters(&rt, &mut twice, Side::Upper, 12, &words);
+        assert_eq!(&rt; once.settled_with(&twice, 0, 3), None);
+        let words = [1, 12, 60, 0, 0, 0, 0, 0, 0];
+        enters(&rt, &mut twice, Side::Lower, 12, &words);
+        // 6 of 30, and 12 of 60.
+        assert_eq!(&rt; once.settled_with(&twice, 0, 3), Some((6, 12)));
+        assert_eq!(&rt; once.settled_with(&twice, 0, 1), None);
     }
 }
