@@ -1,2 +1,4 @@
 pub mod Asking
 pub mod Rows
+pub mod Written
+pub mod Halfway

@@ -10,6 +10,7 @@ use Rattle.script.specs.declared.answer.Answer.TheVariants.{Count, Entries}
 use Rattle.script.specs.declared.rejection.Rejection.{Rejection}
 use Rattle.script.specs.declared.rejection.Rejection.TheVariants.{Refused}
 use Rattle.script.specs.declared.report.items.Row.{Row}
+use Rattle.script.specs.declared.report.items.Tally.{Tally}
 
 -- the pairs of s with the sections below n
 abbrev pub pairs_with : ℕ → ℕ → List (ℕ × ℕ)
@@ -37,6 +38,9 @@ same_verdict _ _ = false
 -- how many of the rows have a verdict
 abbrev pub count_of : Verdict → List Row → ℕ
 count_of v rows = count_by (λ row. same_verdict row.verdict v) rows
+
+abbrev pub tally_of : List Row → Tally
+tally_of rows = record { apart = count_of Apart rows; settled = count_of Settled rows; «open» = count_of Open rows }
 
 -- what a command comes to is the answer of an accepted call; that of a weighing is not
 abbrev pub is_accepted : {F : Type 0} → Result Answer (Rejection F) → Bool

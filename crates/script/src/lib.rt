@@ -6,3 +6,5 @@ pub mod answer;
 pub mod play;
 pub mod rejection;
 pub mod report;
+pub mod session;
+pub mod writing;

@@ -1,6 +1,7 @@
 use chart::top::TopRefusal;
 use files::refusal::ReadRefusal;
 use lines::malformed::Malformed;
+use script::session::Stop;
 use std::io;
 use thiserror::Error;
 
@@ -28,4 +29,13 @@ pub enum Failure {
     /// Reading the lines or writing the answers fails, or there is no memory for it.
     #[error("settle: {0}")]
     Io(#[from] io::Error),
+}
+
+impl From<Stop> for Failure {
+    fn from(stop: Stop) -> Failure {
+        match stop {
+            Stop::Line(number, wrong) => Failure::Line(number, wrong),
+            Stop::Io(error) => Failure::Io(error),
+        }
+    }
 }

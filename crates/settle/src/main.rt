@@ -8,7 +8,6 @@ ghost use Rattle.chart.specs.Tops.{InRange};
 ghost use Rattle.lines.specs.Numerals.{number_of};
 
 mod failure;
-mod session;
 
 use chart::kind::Chart;
 use chart::top::{Top, TopRefusal};
@@ -16,7 +15,8 @@ use failure::Failure;
 use file_charts::charts::FileChart;
 use lines::numerals::read_number;
 use register::register::Register;
-use session::settle_lines;
+use script::session::play_script;
+use script::writing::write_report;
 use sittings::two::Sittings;
 use std::fmt::Display;
 use std::fs::File;
@@ -84,7 +84,7 @@ fn read_top(text: &str) -> Result<Top, Failure>
     Ok(Top::new(u64::from(number))?)
 }
 
-/// Plays the calls of standard input on a register of a chart.
+/// Plays the calls of standard input on a register of a chart, and writes the report.
 fn play_calls<C: Chart + Drop>(rt: &HostRuntime, chart: C, top: Top) -> Result<(), Failure>
 where
     C::Fault: Display + Drop,
@@ -93,7 +93,8 @@ where
     let input = BufReader::new(rt.alloc(), rt.stdin())?;
     let mut out = BufWriter::new(rt.alloc(), rt.stdout())?;
     // Where it fails, what was done before is printed too: a writer that is let go writes what it holds.
-    settle_lines(rt.alloc(), &mut register, input, &mut out)?;
+    let outcomes = play_script(rt.alloc(), &mut register, input, &mut out)?;
+    write_report(rt.alloc(), &register, outcomes, &mut out)?;
     Ok(out.flush()?)
 }
 
