@@ -23,7 +23,7 @@ typedef struct {
 
 /* What a call comes to. Accepted: numbers[0] is its answer, and settle_ask answers the lower entry, the upper
  * entry and one of the words below. Refused: numbers[0] is the refusal's number, and what it carries follows.
- * Of the numbers, the first count have a meaning.
+ * Of the numbers, the first count have a meaning, and the others are 0.
  */
 typedef struct {
     bool accepted;
