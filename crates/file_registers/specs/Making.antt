@@ -12,7 +12,7 @@ use Rattle.sittings.specs.Making.{made}
 use Rattle.file_charts.specs.declared.charts.FileChart.{FileChart}
 use Rattle.file_charts.specs.Meaning.{means}
 use Rattle.file_charts.specs.Reading.{ReadAs}
-use Rattle.file_charts.specs.Registers.{RegistersBound, SettledIsDistance}
+use Rattle.file_charts.specs.Registers.{RegistersBound, SettledIsDistance, EntriesBoundDistance}
 use Rattle.file_registers.specs.declared.registers.FileRegister.{FileRegister}
 use Rattle.file_registers.specs.declared.registers.FileRegister.TheVariants.{One, Two}
 use Rattle.file_registers.specs.declared.registers.NotMade.{NotMade}
@@ -59,5 +59,5 @@ MadeOfTwo bs cs top (Err e) = NoneOfTwo bs cs top e
 
 -- in every register over the chart, after every history, the entries bound the distance, and a settled one is the distance
 abbrev pub IsBound : FileRegister → Type 0
-IsBound (One r) = RegistersBound (chart_of r) × SettledIsDistance (chart_of r)
+IsBound (One r) = RegistersBound (chart_of r) × SettledIsDistance (chart_of r) × EntriesBoundDistance (chart_of r)
 IsBound (Two r) = Unit {0}
