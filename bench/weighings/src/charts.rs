@@ -9,6 +9,7 @@ const PARTS: u16 = 10_000;
 struct Random(u64);
 
 impl Random {
+    /// A number below the limit, which is not 0.
     fn below(&mut self, limit: u64) -> u64 {
         self.0 ^= self.0 << 13;
         self.0 ^= self.0 >> 7;
@@ -47,7 +48,8 @@ pub fn random_weighted(successors: usize) -> Vec<u8> {
         let mut left = PARTS;
         for k in 0..successors {
             let after = (successors - 1 - k) as u16;
-            let part = if after == 0 { left } else { 1 + random.below(u64::from((left - after) / (after + 1)) * 2) as u16 };
+            let share = u64::from((left - after) / (after + 1));
+            let part = if after == 0 { left } else { 1 + random.below((2 * share).max(1)) as u16 };
             let part = part.min(left - after);
             row[(s + k) % SECTIONS] = part;
             left -= part;

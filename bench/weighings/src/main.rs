@@ -57,11 +57,25 @@ fn weighings(name: &str, bytes: &[u8]) {
         let claim = library.weigh(side_of(side), s, t, &words).expect("the showing is valid");
         assert_eq!(model.weigh(side, s as u32, t as u32, &words).ok(), Some(claim), "the two answer the same");
         let times = time_both(
-            || for _ in 0..TIMES { let _ = black_box(library.weigh(side_of(side), s, t, black_box(&words))); },
-            || for _ in 0..TIMES { let _ = black_box(model.weigh(side, s as u32, t as u32, black_box(&words))); },
+            || {
+                for _ in 0..TIMES {
+                    let _ = black_box(library.weigh(side_of(side), s, t, black_box(&words)));
+                }
+            },
+            || {
+                for _ in 0..TIMES {
+                    let _ = black_box(model.weigh(side, s as u32, t as u32, black_box(&words)));
+                }
+            },
         );
         let nanoseconds = |seconds: f64| format!("{:.0} ns", seconds / f64::from(TIMES) * 1e9);
-        println!("| {name}: {showing} of {} words | {} | {} | {:.2} |", words.len(), nanoseconds(times.0), nanoseconds(times.1), times.0 / times.1);
+        println!(
+            "| {name}: {showing} of {} words | {} | {} | {:.2} |",
+            words.len(),
+            nanoseconds(times.0),
+            nanoseconds(times.1),
+            times.0 / times.1
+        );
     }
 }
 
@@ -108,12 +122,21 @@ fn certificates(name: &str, bytes: &[u8], top: u32) {
         assert_eq!((entries.lower, entries.upper, entries.verdict), (shown.claim, shown.claim, settle::Verdict::Settled));
     }
     let times = time_both(
-        || { black_box(send_to_library(black_box(bytes), top, &certificate).is_ok()); },
-        || { black_box(send_to_model(black_box(bytes), top_of, &certificate).is_ok()); },
+        || {
+            black_box(send_to_library(black_box(bytes), top, &certificate).is_ok());
+        },
+        || {
+            black_box(send_to_model(black_box(bytes), top_of, &certificate).is_ok());
+        },
     );
     let shows = certificate.upper.len() + certificate.lower.len();
     let words: usize = certificate.upper.iter().chain(&certificate.lower).map(|shown| shown.words.len()).sum();
-    println!("| {name}: a full certificate, {shows} shows, {words} words | {:.2} ms | {:.2} ms | {:.2} |", times.0 * 1e3, times.1 * 1e3, times.0 / times.1);
+    println!(
+        "| {name}: a full certificate, {shows} shows, {words} words | {:.2} ms | {:.2} ms | {:.2} |",
+        times.0 * 1e3,
+        times.1 * 1e3,
+        times.0 / times.1
+    );
 }
 
 fn main() {

@@ -74,6 +74,18 @@ pub struct Entries {
 /// A register over a chart and a top, or over the two charts of a test that is sat twice.
 ///
 /// Its calls are those of `docs/REGISTER.md`. A call that is refused changes nothing.
+///
+/// A register stays on its thread, and is not shared with another:
+///
+/// ```compile_fail,E0277
+/// fn send<T: Send>() {}
+/// send::<settle::Register>();
+/// ```
+///
+/// ```compile_fail,E0277
+/// fn share<T: Sync>() {}
+/// share::<settle::Register>();
+/// ```
 pub struct Register {
     // Asking and weighing take the handle as if they changed it, and do not change the register. So they go through
     // a cell; the pointer in it keeps a register on one thread.
@@ -96,7 +108,7 @@ impl Register {
         let made = unsafe {
             ffi::settle_new_twice(register.handle.get_mut(), first.as_ptr(), first.len(), second.as_ptr(), second.len(), top)
         };
-        outcome::made(made).map(|()| register)
+        outcome::made_twice(made).map(|()| register)
     }
 
     /// A handle of no register, which no caller sees.

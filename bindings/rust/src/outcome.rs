@@ -22,7 +22,17 @@ fn of<T: TryFrom<u64>>(number: u64) -> T {
 fn sitting(number: u64) -> Sitting {
     match number {
         0 => Sitting::First,
-        _ => Sitting::Second,
+        1 => Sitting::Second,
+        _ => unreachable!("the library answers a sitting {number}"),
+    }
+}
+
+fn verdict(number: u64) -> Verdict {
+    match number {
+        0 => Verdict::Apart,
+        1 => Verdict::Settled,
+        2 => Verdict::Open,
+        _ => unreachable!("the library answers a verdict {number}"),
     }
 }
 
@@ -69,14 +79,7 @@ pub fn count(outcome: Outcome) -> Result<u32, Refusal> {
 
 pub fn entries(outcome: Outcome) -> Result<Entries, Refusal> {
     match numbers(&outcome) {
-        Ok(&[lower, upper, verdict]) => {
-            let verdict = match verdict {
-                0 => Verdict::Apart,
-                1 => Verdict::Settled,
-                _ => Verdict::Open,
-            };
-            Ok(Entries { lower: of(lower), upper: of(upper), verdict })
-        }
+        Ok(&[lower, upper, said]) => Ok(Entries { lower: of(lower), upper: of(upper), verdict: verdict(said) }),
         Ok(answer) => unreachable!("the library answers {answer:?}"),
         Err(numbers) => Err(refusal(numbers)),
     }
@@ -90,12 +93,20 @@ pub fn claim(outcome: Outcome) -> Result<u32, Fault> {
     }
 }
 
-/// The making of a register.
+/// The making of a register over one chart: the library tells sitting 0 of it, and there is none.
 pub fn made(outcome: Outcome) -> Result<(), NotMade> {
+    made_twice(outcome).map_err(|reason| match reason {
+        NotMade::Chart(refusal) => NotMade::Chart(ChartRefusal { sitting: None, ..refusal }),
+        reason => reason,
+    })
+}
+
+/// The making of a register of a test that is sat twice.
+pub fn made_twice(outcome: Outcome) -> Result<(), NotMade> {
     match numbers(&outcome) {
         Ok(_) => Ok(()),
         Err(&[number, place, of_sitting]) => {
-            Err(NotMade::Chart(sitting(of_sitting), ChartRefusal { number: of(number), place: of(place) }))
+            Err(NotMade::Chart(ChartRefusal { sitting: Some(sitting(of_sitting)), number: of(number), place: of(place) }))
         }
         Err(&[11]) => Err(NotMade::Top),
         Err(&[12]) => Err(NotMade::Misfit),

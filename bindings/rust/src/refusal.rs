@@ -5,8 +5,8 @@ use std::fmt;
 /// Why no register is made.
 #[derive(Clone, Copy, PartialEq, Eq, Debug)]
 pub enum NotMade {
-    /// The bytes hold no chart. Of a register over one chart, it is that of sitting 0.
-    Chart(Sitting, ChartRefusal),
+    /// The bytes hold no chart.
+    Chart(ChartRefusal),
     /// The top is 0 or above 1,000,000,000.
     Top,
     /// The two charts are no two sittings of one test.
@@ -18,6 +18,8 @@ pub enum NotMade {
 /// Why bytes hold no chart, with the numbers of `docs/CHART-FILES.md`.
 #[derive(Clone, Copy, PartialEq, Eq, Debug)]
 pub struct ChartRefusal {
+    /// The sitting whose chart it was to be, where a test is sat twice.
+    pub sitting: Option<Sitting>,
     pub number: u16,
     pub place: usize,
 }
@@ -111,22 +113,33 @@ impl fmt::Display for Refusal {
     }
 }
 
+fn write_numbers(f: &mut fmt::Formatter<'_>, sitting: Option<Sitting>, number: u16, place: usize) -> fmt::Result {
+    match sitting {
+        Some(Sitting::First) => write!(f, "0 ")?,
+        Some(Sitting::Second) => write!(f, "1 ")?,
+        None => (),
+    }
+    write!(f, "{number} {place}")
+}
+
 /// The sitting, if one finds it, the number and the place.
 impl fmt::Display for Fault {
     fn fmt(&self, f: &mut fmt::Formatter<'_>) -> fmt::Result {
-        match self.sitting {
-            Some(Sitting::First) => write!(f, "0 ")?,
-            Some(Sitting::Second) => write!(f, "1 ")?,
-            None => (),
-        }
-        write!(f, "{} {}", self.number, self.place)
+        write_numbers(f, self.sitting, self.number, self.place)
+    }
+}
+
+/// The sitting, where a test is sat twice, the number and the place.
+impl fmt::Display for ChartRefusal {
+    fn fmt(&self, f: &mut fmt::Formatter<'_>) -> fmt::Result {
+        write_numbers(f, self.sitting, self.number, self.place)
     }
 }
 
 impl fmt::Display for NotMade {
     fn fmt(&self, f: &mut fmt::Formatter<'_>) -> fmt::Result {
         match self {
-            NotMade::Chart(_, refusal) => write!(f, "{} {}", refusal.number, refusal.place),
+            NotMade::Chart(refusal) => write!(f, "{refusal}"),
             NotMade::Top => write!(f, "11"),
             NotMade::Misfit => write!(f, "12"),
             NotMade::NoMemory => write!(f, "no memory for a register"),

@@ -101,7 +101,7 @@ fn a_test_that_is_sat_twice() {
 #[test]
 fn charts_that_are_refused() {
     let refused = |file: &[u8]| match Register::new(file, 30) {
-        Err(NotMade::Chart(Sitting::First, ChartRefusal { number, place })) => (number, place),
+        Err(NotMade::Chart(ChartRefusal { sitting: None, number, place })) => (number, place),
         other => panic!("{other:?}"),
     };
     assert_eq!(refused(&[]), (1, 0));
@@ -116,14 +116,17 @@ fn charts_that_are_refused() {
     assert_eq!(refused(&with(WORKED, 12, &[0, 19])), (6, 12));
     assert_eq!(refused(&with(WORKED, 29, &[1])), (7, 1));
     assert_eq!(refused(&with(CHOICE, 30, &[0])), (7, 2));
+    assert_eq!(Register::new(&[], 30).unwrap_err().to_string(), "1 0");
 }
 
 #[test]
 fn two_charts_that_are_refused() {
     let second = Register::new_twice(WORKED, &with(WORKED, 2, &[0, 0]), 30).unwrap_err();
-    assert_eq!(second, NotMade::Chart(Sitting::Second, ChartRefusal { number: 3, place: 2 }));
+    assert_eq!(second, NotMade::Chart(ChartRefusal { sitting: Some(Sitting::Second), number: 3, place: 2 }));
+    assert_eq!(second.to_string(), "1 3 2");
     let first = Register::new_twice(&[], &[], 0).unwrap_err();
-    assert_eq!(first, NotMade::Chart(Sitting::First, ChartRefusal { number: 1, place: 0 }));
+    assert_eq!(first, NotMade::Chart(ChartRefusal { sitting: Some(Sitting::First), number: 1, place: 0 }));
+    assert_eq!(first.to_string(), "0 1 0");
     assert_eq!(Register::new_twice(WORKED, CHOICE, 0).unwrap_err(), NotMade::Top);
     assert_eq!(Register::new_twice(WORKED, CHOICE, 30).unwrap_err(), NotMade::Misfit);
     assert!(Register::new_twice(CHOICE, CHOICE, 30).is_ok());

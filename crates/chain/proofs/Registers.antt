@@ -1,9 +1,9 @@
 -- Every register over a weighted chart bounds the discounted bisimilarity distance.
-use Rattle.std.proofs.Common.{◌≡◌, ℕ, ◌*◌, ◌≤◌, ap, refl, mul-le-mul_left, arith}
-use native.Mathlib.Nat.{le_of_mul-le-mul_left}
+use Rattle.std.proofs.Common.{◌≤◌, refl}
 use Rattle.chart.specs.Distances.{Distances}
 use Rattle.history.specs.Bounding.{Bounding}
 use Rattle.history.specs.Rules.{over}
+use Rattle.history.proofs.Fractions.{at_most_equal}
 use Rattle.history.proofs.Sound.{upper_supported, lower_bounded}
 use Rattle.chain.specs.Chain.{Chain, Sound}
 use Rattle.chain.specs.Meaning.{means}
@@ -11,12 +11,6 @@ use Rattle.chain.specs.Coupling.{NowhereRaised}
 use Rattle.chain.specs.Registers.{RegistersBound, SettledIsDistance, EntriesBoundDistance}
 use Rattle.chain.proofs.Couplings.{couplings_bound}
 use Rattle.chain.proofs.Laws.{lawful, nowhere_raised}
-
--- the numbers alone: l / K ≤ y / T and y / T = x / J
-divided : (l y x J K T : ℕ) → 1 ≤ T → l * T ≤ y * K → y * J ≡ x * T → l * J ≤ x * K
-divided l y x J K T some under is =
-    let times : T * (l * J) ≤ T * (x * K) = omega (arith, mul-le-mul_left J under, ap (λ z. z * K) is) in
-    le_of_mul-le-mul_left times some
 
 module _ (c : Chain) (sound : Sound c) where
   -- a table that the operator nowhere raises bounds what potentials show
@@ -49,4 +43,4 @@ module _ (c : Chain) (sound : Sound c) where
       let bounds = registers_bound K k σ h run in
       let (e, some, low, is) = distance.attained in
       let under = bounds.lower e some low s t ls lt in
-      (divided (σ.lower s t) (e.entry s t) x J K e.top some under is, distance.least (over K σ.upper) k.0 bounds.upper)
+      (at_most_equal (σ.lower s t) (e.entry s t) x J K e.top some under is, distance.least (over K σ.upper) k.0 bounds.upper)

@@ -25,10 +25,16 @@ pub record Distance (c : Chain) (s t x K : ℕ) : Type 0 where
   pub least : (e : Distances) → 1 ≤ e.top → NowhereRaised c e → x * e.top ≤ e.entry s t * K
 
 -- at a judged pair whose two entries are equal, they are the distance
-abbrev pub SettledIsDistance : Chain → Type 0
-SettledIsDistance c = Always (means c) (λ K σ h. (s t : ℕ) → Judges c.n c.band s t → σ.lower s t ≡ σ.upper s t → Distance c s t (σ.upper s t) K)
+abbrev pub SettlesAtDistance : Chain → ℕ → State → Type 0
+SettlesAtDistance c K σ = (s t : ℕ) → Judges c.n c.band s t → σ.lower s t ≡ σ.upper s t → Distance c s t (σ.upper s t) K
 
 -- at every pair of sections no lower entry is above the distance, and no upper one below it
+abbrev pub BoundsDistance : Chain → ℕ → State → Type 0
+BoundsDistance c K σ = (s t x J : ℕ) → s < c.n → t < c.n → Distance c s t x J → (σ.lower s t * J ≤ x * K) × (x * K ≤ σ.upper s t * J)
+
+-- and each of the two in every register over the chart, over every top and after every history
+abbrev pub SettledIsDistance : Chain → Type 0
+SettledIsDistance c = Always (means c) (λ K σ h. SettlesAtDistance c K σ)
+
 abbrev pub EntriesBoundDistance : Chain → Type 0
-EntriesBoundDistance c = Always (means c) (λ K σ h.
-    (s t x J : ℕ) → s < c.n → t < c.n → Distance c s t x J → (σ.lower s t * J ≤ x * K) × (x * K ≤ σ.upper s t * J))
+EntriesBoundDistance c = Always (means c) (λ K σ h. BoundsDistance c K σ)

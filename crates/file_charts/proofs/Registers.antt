@@ -12,7 +12,7 @@ use Rattle.file_charts.specs.declared.fault.FileFault.TheVariants as fault
 use Rattle.file_charts.specs.declared.charts.FileChart.{FileChart}
 use Rattle.file_charts.specs.declared.charts.FileChart.TheVariants.{Weighted, Choice}
 use Rattle.file_charts.specs.Faults.{fault_numbers}
-use Rattle.file_charts.specs.Registers.{RegistersBound, SettledIsDistance}
+use Rattle.file_charts.specs.Registers.{RegistersBound, SettledIsDistance, EntriesBoundDistance}
 
 pub registers_bound : (c : FileChart) → RegistersBound c
 registers_bound (Weighted w) = always_carried fault.Weighted fault_numbers (chain.means (chain_of w)) _ (chain_proofs.registers_bound (chain_of w) (chain_sound w))
@@ -21,3 +21,7 @@ registers_bound (Choice c) = always_carried fault.Choice fault_numbers (transiti
 pub settled_is_distance : (c : FileChart) → SettledIsDistance c
 settled_is_distance (Weighted w) = always_carried fault.Weighted fault_numbers (chain.means (chain_of w)) _ (chain_proofs.settled_is_distance (chain_of w) (chain_sound w))
 settled_is_distance (Choice c) = always_carried fault.Choice fault_numbers (transitions.means (system_of c)) _ (transitions_proofs.settled_is_distance (system_of c) (system_sound c))
+
+pub entries_bound_distance : (c : FileChart) → EntriesBoundDistance c
+entries_bound_distance (Weighted w) = always_carried fault.Weighted fault_numbers (chain.means (chain_of w)) _ (chain_proofs.entries_bound_distance (chain_of w) (chain_sound w))
+entries_bound_distance (Choice c) = always_carried fault.Choice fault_numbers (transitions.means (system_of c)) _ (transitions_proofs.entries_bound_distance (system_of c) (system_sound c))

@@ -10,15 +10,16 @@ use Rattle.choice.specs.Reading as choice
 use Rattle.file_charts.specs.declared.charts.FileChart.{FileChart}
 use Rattle.file_charts.specs.declared.charts.FileChart.TheVariants.{Weighted, Choice}
 
--- the weighted chart that the file holds, or why it holds none
+-- the file passes every check of a weighted chart's reader and holds this chart, or the first check that it fails
 abbrev pub ReadAsWeighted : List ℕ → Result FileChart ReadRefusal → Type 0
-ReadAsWeighted bs (Ok (Weighted w)) = chain w ≡ weighted.chain_in bs
+ReadAsWeighted bs (Ok (Weighted w)) = (weighted.read_refusal bs ≡ None) × (chain w ≡ weighted.chain_in bs)
 ReadAsWeighted bs (Ok (Choice c)) = ⊥
 ReadAsWeighted bs (Err e) = weighted.read_answer bs ≡ Err e
 
+-- the same of a choice chart
 abbrev pub ReadAsChoice : List ℕ → Result FileChart ReadRefusal → Type 0
 ReadAsChoice bs (Ok (Weighted w)) = ⊥
-ReadAsChoice bs (Ok (Choice c)) = system c ≡ choice.system_in bs
+ReadAsChoice bs (Ok (Choice c)) = (choice.read_refusal bs ≡ None) × (system c ≡ choice.system_in bs)
 ReadAsChoice bs (Err e) = choice.read_answer bs ≡ Err e
 
 -- a file that names no kind is read as a weighted chart

@@ -2,7 +2,7 @@ ghost use Rattle.std.specs.Prelude.{◌≡◌, IfOk};
 ghost use Rattle.files.specs.Kinds.{kind_named};
 ghost use Rattle.file_charts.specs.Meaning.{means};
 ghost use Rattle.file_charts.specs.Reading.{ReadAs};
-ghost use Rattle.file_charts.specs.Registers.{RegistersBound, SettledIsDistance};
+ghost use Rattle.file_charts.specs.Registers.{EntriesBoundDistance, RegistersBound, SettledIsDistance};
 ghost use Rattle.file_charts.specs.Soundness.{sound};
 
 use crate::fault::FileFault;
@@ -27,6 +27,7 @@ impl FileChart {
         ensures answer { ReadAs (kind_named bytes.now) bytes.now result }
         ensures bounds { IfOk result RegistersBound }
         ensures settled { IfOk result SettledIsDistance }
+        ensures between { IfOk result EntriesBoundDistance }
     {
         match Kind::of(bytes) {
             Some(Kind::Choice) => {

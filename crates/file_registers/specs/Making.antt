@@ -12,12 +12,12 @@ use Rattle.sittings.specs.Making.{made}
 use Rattle.file_charts.specs.declared.charts.FileChart.{FileChart}
 use Rattle.file_charts.specs.Meaning.{means}
 use Rattle.file_charts.specs.Reading.{ReadAs}
-use Rattle.file_charts.specs.Registers.{RegistersBound, SettledIsDistance}
+use Rattle.file_charts.specs.Registers.{RegistersBound, SettledIsDistance, EntriesBoundDistance}
 use Rattle.file_registers.specs.declared.registers.FileRegister.{FileRegister}
 use Rattle.file_registers.specs.declared.registers.FileRegister.TheVariants.{One, Two}
 use Rattle.file_registers.specs.declared.registers.NotMade.{NotMade}
 use Rattle.file_registers.specs.declared.registers.NotMade.TheVariants.{First, Second, Top, Misfit}
-use Rattle.file_registers.specs.Registers.{KeepsIts}
+use Rattle.file_registers.specs.Registers.{RegisterKeepsPromise}
 
 -- a file with these bytes holds the chart, or is refused
 abbrev pub Holds : List ℕ → FileChart → Type 0
@@ -31,7 +31,7 @@ pub record IsFresh {C F : Type 0} {G : Ghosts C F} (r : Register C F G) (K : ℕ
   pub in_range : InRange K
   pub top : top_of r ≡ K
   pub state : held r ≡ fresh (G.meaning (chart_of r)) K
-  pub promise : KeepsIts r
+  pub promise : RegisterKeepsPromise r
 
 -- why no register is made of one chart: the first of these
 abbrev pub NoneOfOne : List ℕ → ℕ → NotMade → Type 0
@@ -57,7 +57,8 @@ MadeOfTwo bs cs top (Ok (One r)) = ⊥
 MadeOfTwo bs cs top (Ok (Two r)) = (c d : FileChart) × Holds bs c × Holds cs d × (made (fit (means c) (means d)) c d ≡ Ok (chart_of r)) × IsFresh r top
 MadeOfTwo bs cs top (Err e) = NoneOfTwo bs cs top e
 
--- in every register over the chart, after every history, the entries bound the distance, and a settled one is the distance
-abbrev pub IsBound : FileRegister → Type 0
-IsBound (One r) = RegistersBound (chart_of r) × SettledIsDistance (chart_of r)
-IsBound (Two r) = Unit {0}
+-- In every register over the chart, after every history, the entries bound the distance, and a settled one is the distance.
+-- Of two sittings nothing is said here: the field has an operator for each of the two charts, and none for both.
+abbrev pub DistanceIsBounded : FileRegister → Type 0
+DistanceIsBounded (One r) = RegistersBound (chart_of r) × SettledIsDistance (chart_of r) × EntriesBoundDistance (chart_of r)
+DistanceIsBounded (Two r) = Unit {0}

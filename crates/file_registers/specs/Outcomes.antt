@@ -1,4 +1,4 @@
--- What is told in numbers.
+-- What a call, a weighing or a making comes to, in numbers.
 use Rattle.std.specs.Prelude.{ℕ, Bool, true, false, List, [], ◌∷◌, take, Ok, Err, Result}
 use Rattle.files.specs.declared.refusal.ReadRefusal.{ReadRefusal}
 use Rattle.files.specs.Refusals as reading
@@ -11,9 +11,9 @@ use Rattle.file_registers.specs.declared.registers.NotMade.{NotMade}
 use Rattle.file_registers.specs.declared.registers.NotMade.TheVariants.{First, Second, Top, Misfit}
 use Rattle.file_registers.specs.declared.outcome.Outcome.{Outcome}
 
--- whether it is accepted, and the numbers
-abbrev pub told : Outcome → Bool × List ℕ
-told o = (o.accepted, take o.count o.numbers)
+-- an outcome as its numbers: whether it is accepted, and as many numbers as it counts
+abbrev pub in_numbers : Outcome → Bool × List ℕ
+in_numbers o = (o.accepted, take o.count o.numbers)
 
 abbrev pub verdict_number : Verdict → ℕ
 verdict_number Apart = 0

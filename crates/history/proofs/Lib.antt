@@ -11,3 +11,4 @@ pub mod Promises
 pub mod Histories
 pub mod Tellings
 pub mod Lines
+pub mod Fractions

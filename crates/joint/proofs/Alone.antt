@@ -3,13 +3,13 @@ use Rattle.std.proofs.Common.{◌≡◌, ℕ, Bool, true, false, cond, List, ℤ
 use Rattle.chart.specs.declared.side.Side.{Side}
 use Rattle.chart.specs.declared.side.Side.TheVariants.{Upper, Lower}
 use Rattle.chart.specs.Distances.{Distances}
-use Rattle.chart.specs.Weighing.{Weighs}
+use Rattle.chart.specs.Weighing.{Weighs, fault_as}
 use Rattle.chart.specs.Meaning.{Meaning, Shown}
 use Rattle.chart.specs.Laws.{Lawful}
 use Rattle.chart.specs.Starting.{judged_pair}
 use Rattle.joint.specs.declared.fault.Fault.{Fault}
-use Rattle.joint.specs.declared.fault.Fault.TheVariants.{Unjudged}
-use Rattle.joint.specs.Meaning.{of_first, alone}
+use Rattle.joint.specs.declared.fault.Fault.TheVariants.{Unjudged, First}
+use Rattle.joint.specs.Meaning.{alone}
 use Rattle.joint.proofs.Judging.{judged_from, unjudged_is_false}
 
 module _ {P Q : Type 0} (m : Meaning P) (second : Q → List ℕ) (lawful : Lawful m) where
@@ -19,13 +19,13 @@ module _ {P Q : Type 0} (m : Meaning P) (second : Q → List ℕ) (lawful : Lawf
   shown_of : (side : Side) (d : Distances) (s t : ℕ) (ws : List ℤ) (c : ℕ) → Shown m side d s t ws c → Shown (alone m second) side d s t ws c
   shown_of side d s t ws c h = record { valid = h.valid; shows = h.shows }
 
-  answer_marked : (side : Side) (valid : Type 0) (shows : ℕ → Type 0) (r : Result ℕ P) → Weighs side valid shows r → Weighs {F = Fault P Q} side valid shows (of_first r)
+  answer_marked : (side : Side) (valid : Type 0) (shows : ℕ → Type 0) (r : Result ℕ P) → Weighs side valid shows r → Weighs {F = Fault P Q} side valid shows (fault_as First r)
   answer_marked side valid shows (Ok c) h = h
   answer_marked side valid shows (Err f) h = h
 
   weighs : (side : Side) (d : Distances) (s t : ℕ) (ws : List ℤ) → Weighs side (m.valid side d s t ws) (m.shows side d s t ws) ((alone m second).weigh side d s t ws)
   weighs side d s t ws = by (judged_pair m s t) refl where
-    by : (judged : Bool) → judged_pair m s t ≡ judged → Weighs {F = Fault P Q} side (m.valid side d s t ws) (m.shows side d s t ws) (cond judged (of_first (m.weigh side d s t ws)) (Err Unjudged))
+    by : (judged : Bool) → judged_pair m s t ≡ judged → Weighs {F = Fault P Q} side (m.valid side d s t ws) (m.shows side d s t ws) (cond judged (fault_as First (m.weigh side d s t ws)) (Err Unjudged))
     by true e = answer_marked side _ _ (m.weigh side d s t ws) (lawful.weighs side d s t ws)
     by false e =
         let (f, is, numbers) = lawful.unjudged side d s t ws (λ j. cc (judged_from m s t j, e)) in

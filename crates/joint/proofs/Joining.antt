@@ -6,13 +6,13 @@ use Rattle.std.specs.List.{AllByRecursion}
 use Rattle.chart.specs.declared.side.Side.{Side}
 use Rattle.chart.specs.declared.side.Side.TheVariants.{Upper, Lower}
 use Rattle.chart.specs.Distances.{Distances}
-use Rattle.chart.specs.Weighing.{Weaker, Weighs}
+use Rattle.chart.specs.Weighing.{Weaker, Weighs, fault_as}
 use Rattle.chart.specs.Meaning.{Meaning, Judged, Shown, Word}
 use Rattle.chart.specs.Laws.{Lawful, Tighter, Within}
 use Rattle.joint.specs.declared.fault.Fault.{Fault}
-use Rattle.joint.specs.declared.fault.Fault.TheVariants.{Unjudged}
+use Rattle.joint.specs.declared.fault.Fault.TheVariants.{Unjudged, First, Second}
 use Rattle.joint.specs.Splitting.{split, Addressed, to_first, to_second, to_neither, addressed}
-use Rattle.joint.specs.Meaning.{of_first, of_second, larger, judged, ValidInBoth, ShownByBoth, pairing, ValidInOne, ShownByOne, potentials, Valid, Shows, weighed, joined}
+use Rattle.joint.specs.Meaning.{larger, judged, ValidInBoth, ShownByBoth, pairing, ValidInOne, ShownByOne, potentials, Valid, Shows, weighed, joined}
 use Rattle.joint.proofs.Judging.{unjudged_in_one, self_judged}
 
 all_appended : {X : Type 0} (P : X → Type 0) (xs ys : List X) → AllByRecursion P xs → AllByRecursion P ys → AllByRecursion P (xs ++ ys)
@@ -39,19 +39,15 @@ module _ {P Q : Type 0} (m : Meaning P) (o : Meaning Q) (lm : Lawful m) (lo : La
   pairing_weighs d s t true None = λ v. v.1
   pairing_weighs d s t true (Some (x, y)) = larger_weighs d s t x y (m.weigh Upper d s t x) (o.weigh Upper d s t y) (lm.weighs Upper d s t x) (lo.weighs Upper d s t y)
 
-  first_weighs : (valid : Type 0) (shows : ℕ → Type 0) (r : Result ℕ P) → Weighs Lower valid shows r → Weighs {F = Fault P Q} Lower ((true ≡ true) × valid) shows (of_first r)
-  first_weighs valid shows (Ok c) (v, best) = ((refl, v), best)
-  first_weighs valid shows (Err f) not_valid = λ v. not_valid v.1
-
-  second_weighs : (valid : Type 0) (shows : ℕ → Type 0) (r : Result ℕ Q) → Weighs Lower valid shows r → Weighs {F = Fault P Q} Lower ((true ≡ true) × valid) shows (of_second r)
-  second_weighs valid shows (Ok c) (v, best) = ((refl, v), best)
-  second_weighs valid shows (Err f) not_valid = λ v. not_valid v.1
+  one_weighs : {R : Type 0} (wrap : R → Fault P Q) (valid : Type 0) (shows : ℕ → Type 0) (r : Result ℕ R) → Weighs Lower valid shows r → Weighs {F = Fault P Q} Lower ((true ≡ true) × valid) shows (fault_as wrap r)
+  one_weighs wrap valid shows (Ok c) (v, best) = ((refl, v), best)
+  one_weighs wrap valid shows (Err f) not_valid = λ v. not_valid v.1
 
   potentials_weigh : (d : Distances) (s t : ℕ) (judged : Bool) (words : Addressed)
       → Weighs Lower ((judged ≡ true) × ValidInOne m o d s t words) (λ c. ShownByOne m o d s t c words) (cond judged (potentials m o d s t words) (Err Unjudged))
   potentials_weigh d s t false words = λ v. cc v.0
-  potentials_weigh d s t true (to_first ws) = first_weighs _ _ (m.weigh Lower d s t ws) (lm.weighs Lower d s t ws)
-  potentials_weigh d s t true (to_second ws) = second_weighs _ _ (o.weigh Lower d s t ws) (lo.weighs Lower d s t ws)
+  potentials_weigh d s t true (to_first ws) = one_weighs First _ _ (m.weigh Lower d s t ws) (lm.weighs Lower d s t ws)
+  potentials_weigh d s t true (to_second ws) = one_weighs Second _ _ (o.weigh Lower d s t ws) (lo.weighs Lower d s t ws)
   potentials_weigh d s t true to_neither = λ v. v.1
 
   weighs : (side : Side) (d : Distances) (s t : ℕ) (ws : List ℤ) → Weighs side (Valid m o side d s t ws) (Shows m o side d s t ws) (weighed m o side d s t ws)

@@ -5,6 +5,7 @@ use Rattle.chart.specs.declared.side.Side.TheVariants.{Upper, Lower}
 use Rattle.chart.specs.Distances.{Distances}
 use Rattle.chart.specs.Meaning.{Meaning}
 use Rattle.chart.specs.Starting.{judged_pair}
+use Rattle.chart.specs.Weighing.{fault_as}
 use Rattle.joint.specs.declared.fault.Fault.{Fault}
 use Rattle.joint.specs.declared.fault.Fault.TheVariants.{Unjudged, Split, NoSitting, First, Second}
 use Rattle.joint.specs.Fitting.{fit, longest}
@@ -12,23 +13,15 @@ use Rattle.joint.specs.Splitting.{split, Addressed, to_first, to_second, to_neit
 use Rattle.joint.specs.Faults.{fault_numbers}
 
 module _ {P Q : Type 0} where
-  -- what a sitting answers, its fault marked as its own
-  abbrev pub of_first : Result ℕ P → Result ℕ (Fault P Q)
-  of_first (Ok claim) = Ok claim
-  of_first (Err fault) = Err (First fault)
-
-  abbrev pub of_second : Result ℕ Q → Result ℕ (Fault P Q)
-  of_second (Ok claim) = Ok claim
-  of_second (Err fault) = Err (Second fault)
-
   -- the larger claim, or else the fault of sitting 0 before that of sitting 1
   abbrev pub larger : Result ℕ P → Result ℕ Q → Result ℕ (Fault P Q)
   larger (Ok claim) (Ok other) = Ok (max claim other)
   larger (Ok claim) (Err fault) = Err (Second fault)
   larger (Err fault) answer = Err (First fault)
 
+  -- what sitting 0 answers, a fault marked as its own
   abbrev pub weighed_alone : Meaning P → Side → Distances → ℕ → ℕ → List ℤ → Result ℕ (Fault P Q)
-  weighed_alone m side d s t ws = cond (judged_pair m s t) (of_first (m.weigh side d s t ws)) (Err Unjudged)
+  weighed_alone m side d s t ws = cond (judged_pair m s t) (fault_as First (m.weigh side d s t ws)) (Err Unjudged)
 
   -- sitting 0 alone
   abbrev pub alone : Meaning P → (Q → List ℕ) → Meaning (Fault P Q)
@@ -74,8 +67,8 @@ module _ {P Q : Type 0} (m : Meaning P) (o : Meaning Q) where
   ShownByOne d s t claim to_neither = ⊥
 
   abbrev pub potentials : Distances → ℕ → ℕ → Addressed → Result ℕ (Fault P Q)
-  potentials d s t (to_first ws) = of_first (m.weigh Lower d s t ws)
-  potentials d s t (to_second ws) = of_second (o.weigh Lower d s t ws)
+  potentials d s t (to_first ws) = fault_as First (m.weigh Lower d s t ws)
+  potentials d s t (to_second ws) = fault_as Second (o.weigh Lower d s t ws)
   potentials d s t to_neither = Err NoSitting
 
   abbrev pub Valid : Side → Distances → ℕ → ℕ → List ℤ → Type 0

@@ -1,7 +1,6 @@
-ghost use Rattle.std.specs.Prelude.{◌≡◌, cond};
-ghost use Rattle.chart.specs.declared.side.Side.TheVariants.{Upper, Lower};
+ghost use Rattle.std.specs.Prelude.{◌≡◌};
 ghost use Rattle.history.specs.Calls.{Ask};
-ghost use Rattle.settle_c.specs.Handles.{KeepsPromise, Plays, Weighs, sections};
+ghost use Rattle.settle_c.specs.Handles.{KeepsPromise, Plays, Weighs, sections, side_named};
 
 use crate::calls::{NO_REGISTER, side};
 use crate::handle::Handle;
@@ -51,7 +50,7 @@ pub extern "C" fn settle_weigh(
     t: usize,
     words: &[i32],
 ) -> Outcome
-    ensures weighs { Weighs handle.old.register (cond lower Lower Upper) s t words.now result }
+    ensures weighs { Weighs handle.old.register (side_named lower) s t words.now result }
     ensures same { handle.new.register ≡ handle.old.register }
 {
     match handle.take(heap) {

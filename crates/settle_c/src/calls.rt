@@ -1,8 +1,7 @@
-ghost use Rattle.std.specs.Prelude.{◌≡◌, cond};
-ghost use Rattle.chart.specs.declared.side.Side.TheVariants.{Upper, Lower};
+ghost use Rattle.std.specs.Prelude.{◌≡◌};
 ghost use Rattle.history.specs.Calls.{Abandon, Claim, Close, Enter, Open, Show};
 ghost use Rattle.register.specs.Calls.{call_of};
-ghost use Rattle.settle_c.specs.Handles.{KeepsPromise, Plays};
+ghost use Rattle.settle_c.specs.Handles.{KeepsPromise, Plays, side_named};
 
 use crate::handle::Handle;
 use chart::side::Side;
@@ -15,7 +14,7 @@ pub(crate) const NO_REGISTER: u16 = 91;
 
 /// The lower side or the upper one.
 pub(crate) fn side(lower: bool) -> Side
-    ensures { result ≡ cond lower Lower Upper }
+    ensures { result ≡ side_named lower }
 {
     if lower { Side::Lower } else { Side::Upper }
 }
@@ -40,7 +39,7 @@ fn play(heap: Global, handle: &mut Handle, call: Call<'_>) -> Outcome
 /// Opens a draft of claims on a side.
 #[unsafe(no_mangle)]
 pub extern "C" fn settle_open(heap: Global, handle: &mut Handle, lower: bool) -> Outcome
-    ensures plays { Plays handle.old.register (Open (cond lower Lower Upper)) result handle.new.register }
+    ensures plays { Plays handle.old.register (Open (side_named lower)) result handle.new.register }
     ensures promise { KeepsPromise handle.new.register }
 {
     play(heap, handle, Call::Open(side(lower)))

@@ -1,8 +1,5 @@
-ghost use Rattle.std.specs.Prelude.{◌≡◌, None, Result};
-ghost use Rattle.file_registers.specs.declared.registers.FileRegister.{FileRegister};
-ghost use Rattle.file_registers.specs.declared.registers.NotMade.{NotMade};
-ghost use Rattle.file_registers.specs.Making.{MadeOfOne, MadeOfTwo};
-ghost use Rattle.settle_c.specs.Handles.{Stands};
+ghost use Rattle.std.specs.Prelude.{◌≡◌, None};
+ghost use Rattle.settle_c.specs.Handles.{MakesOfOne, MakesOfTwo, Stands};
 
 use crate::handle::Handle;
 use file_registers::outcome::Outcome;
@@ -15,7 +12,7 @@ const NO_MEMORY: u16 = 90;
 /// Makes a register of the chart in a file with these bytes and a top of that number.
 #[unsafe(no_mangle)]
 pub extern "C" fn settle_new(heap: Global, handle: &mut Handle, chart: &[u8], top: u32) -> Outcome
-    ensures { (made : Result FileRegister NotMade) × MadeOfOne chart.now top made × Stands made handle.old.register result handle.new.register }
+    ensures { MakesOfOne chart.now top handle.old.register result handle.new.register }
 {
     stand(heap, handle, FileRegister::of_one(chart, top.into()))
 }
@@ -29,7 +26,7 @@ pub extern "C" fn settle_new_twice(
     second: &[u8],
     top: u32,
 ) -> Outcome
-    ensures { (made : Result FileRegister NotMade) × MadeOfTwo first.now second.now top made × Stands made handle.old.register result handle.new.register }
+    ensures { MakesOfTwo first.now second.now top handle.old.register result handle.new.register }
 {
     stand(
         heap,

@@ -4,10 +4,11 @@ use Rattle.chart.specs.Distances.{Distances}
 use Rattle.chart.specs.Same.{IsTable}
 use Rattle.chart.specs.Supported.{Supported}
 use Rattle.history.specs.Rules.{over}
+use Rattle.history.proofs.Fractions.{at_most_equal}
 use Rattle.history.proofs.Sound.{upper_supported, lower_true}
 use Rattle.transitions.specs.System.{System, Sound}
 use Rattle.transitions.specs.Meaning.{means}
-use Rattle.transitions.specs.Registers.{RegistersBound, SettledIsDistance}
+use Rattle.transitions.specs.Registers.{RegistersBound, SettledIsDistance, EntriesBoundDistance}
 use Rattle.transitions.proofs.Hausdorff.{supported_is_not_raised}
 use Rattle.transitions.proofs.Laws.{lawful}
 
@@ -32,3 +33,11 @@ module _ (c : System) (sound : Sound c) where
         attained = (over K σ.upper, table, bounds.upper, refl);
         least = λ e table low. rw (← equal) (bounds.lower e table low s t j.first_in j.second_in);
       }
+
+  pub entries_bound_distance : EntriesBoundDistance c
+  entries_bound_distance K k σ h run s t x J ls lt distance =
+      let bounds = registers_bound K k σ h run in
+      let table = is_table _ (upper_supported (means c) (lawful c sound) K k σ h run) in
+      let (e, bounded, low, is) = distance.attained in
+      let under = bounds.lower e bounded low s t ls lt in
+      (at_most_equal (σ.lower s t) (e.entry s t) x J K e.top bounded.top_least under is, distance.least (over K σ.upper) table bounds.upper)

@@ -1,9 +1,9 @@
 ghost use Rattle.std.specs.Prelude.{◌≡◌, true, false, [], ◌∷◌};
 ghost use Rattle.register.specs.Calls.{asked, counted};
 ghost use Rattle.file_registers.specs.Faults.{sitting_number as number_of_sitting};
-ghost use Rattle.file_registers.specs.Outcomes.{call_outcome, not_made_numbers, reading_numbers, refusal_outcome, told, verdict_number, weighing_outcome};
+ghost use Rattle.file_registers.specs.Outcomes.{call_outcome, in_numbers, not_made_numbers, reading_numbers, refusal_outcome, verdict_number, weighing_outcome};
 
-use crate::faults::{FaultNumbers, Numbered, Sitting};
+use crate::faults::{Numbered, Sitting};
 use crate::outcome::Outcome;
 use crate::registers::NotMade;
 use files::refusal::ReadRefusal;
@@ -13,7 +13,7 @@ use history::verdict::Verdict;
 impl Outcome {
     /// An answer of one number.
     pub fn answer(answer: u32) -> Outcome
-        ensures { told result ≡ (true, answer ∷ []) }
+        ensures { in_numbers result ≡ (true, answer ∷ []) }
     {
         Outcome {
             accepted: true,
@@ -24,7 +24,7 @@ impl Outcome {
 
     /// A refusal that carries nothing.
     pub fn refusal(number: u16) -> Outcome
-        ensures { told result ≡ (false, number ∷ []) }
+        ensures { in_numbers result ≡ (false, number ∷ []) }
     {
         Outcome {
             accepted: false,
@@ -35,7 +35,7 @@ impl Outcome {
 
     /// A refusal that carries a number.
     fn refusal_with(number: u16, carried: u64) -> Outcome
-        ensures { told result ≡ (false, number ∷ carried ∷ []) }
+        ensures { in_numbers result ≡ (false, number ∷ carried ∷ []) }
     {
         Outcome {
             accepted: false,
@@ -46,7 +46,7 @@ impl Outcome {
 
     /// A refusal that carries two numbers.
     fn refusal_with_two(number: u16, first: u64, second: u64) -> Outcome
-        ensures { told result ≡ (false, number ∷ first ∷ second ∷ []) }
+        ensures { in_numbers result ≡ (false, number ∷ first ∷ second ∷ []) }
     {
         Outcome {
             accepted: false,
@@ -57,28 +57,32 @@ impl Outcome {
 
     /// Why no register is made.
     pub fn of_not_made(reason: NotMade) -> Outcome
-        ensures { told result ≡ (false, not_made_numbers reason) }
+        ensures { in_numbers result ≡ (false, not_made_numbers reason) }
     {
         match reason {
-            NotMade::First(refusal) => Outcome::of_reading(refusal, 0),
-            NotMade::Second(refusal) => Outcome::of_reading(refusal, 1),
+            NotMade::First(refusal) => Outcome::of_reading(refusal, Sitting::First),
+            NotMade::Second(refusal) => Outcome::of_reading(refusal, Sitting::Second),
             NotMade::Top => Outcome::refusal(11),
             NotMade::Misfit => Outcome::refusal(12),
         }
     }
 
     /// A refused chart file: the refusal's number, its place, and of which sitting the chart was to be.
-    fn of_reading(refusal: ReadRefusal, sitting: u64) -> Outcome
-        ensures { told result ≡ (false, reading_numbers refusal sitting) }
+    fn of_reading(refusal: ReadRefusal, sitting: Sitting) -> Outcome
+        ensures { in_numbers result ≡ (false, reading_numbers refusal (number_of_sitting sitting)) }
     {
-        Outcome::refusal_with_two(refusal.number(), refusal.place() as u64, sitting)
+        Outcome::refusal_with_two(
+            refusal.number(),
+            refusal.place() as u64,
+            sitting_number(sitting),
+        )
     }
 
     /// What a call that answers with a count comes to.
     pub(crate) fn of_call<F: Numbered>(outcome: Result<u32, Refusal<F>>) -> Outcome
     where
         F: Drop,
-        ensures { told result ≡ call_outcome F.numbers (counted outcome) }
+        ensures { in_numbers result ≡ call_outcome F.numbers (counted outcome) }
     {
         match outcome {
             Ok(count) => Outcome::answer(count),
@@ -90,7 +94,7 @@ impl Outcome {
     pub(crate) fn of_ask<F: Numbered>(outcome: Result<(u32, u32, Verdict), Refusal<F>>) -> Outcome
     where
         F: Drop,
-        ensures { told result ≡ call_outcome F.numbers (asked outcome) }
+        ensures { in_numbers result ≡ call_outcome F.numbers (asked outcome) }
     {
         match outcome {
             Ok((lower, upper, verdict)) => Outcome {
@@ -106,22 +110,23 @@ impl Outcome {
     pub(crate) fn of_weighing<F: Numbered>(outcome: Result<u32, F>) -> Outcome
     where
         F: Drop,
-        ensures { told result ≡ weighing_outcome F.numbers outcome }
+        ensures { in_numbers result ≡ weighing_outcome F.numbers outcome }
     {
         match outcome {
             Ok(claim) => Outcome::answer(claim),
             Err(fault) => {
-                let FaultNumbers {
-                    sitting,
-                    number,
-                    place,
-                } = fault.numbers();
-                match sitting {
-                    None => Outcome::refusal_with(number, place as u64),
+                let fault = fault.numbers();
+                match fault.sitting {
+                    None => Outcome::refusal_with(fault.number, fault.place as u64),
                     Some(sitting) => Outcome {
                         accepted: false,
                         count: 3,
-                        numbers: [sitting_number(sitting), number.into(), place as u64, 0],
+                        numbers: [
+                            sitting_number(sitting),
+                            fault.number.into(),
+                            fault.place as u64,
+                            0,
+                        ],
                     },
                 }
             }
@@ -130,26 +135,26 @@ impl Outcome {
 
     /// What a refused call comes to.
     fn of_refusal<F: Numbered>(refusal: &Refusal<F>) -> Outcome
-        ensures { told result ≡ refusal_outcome F.numbers refusal.now }
+        ensures { in_numbers result ≡ refusal_outcome F.numbers refusal.now }
     {
         let number = refusal.number();
         match refusal {
             Refusal::Fault(fault) => {
-                let FaultNumbers {
-                    sitting,
-                    number: of_fault,
-                    place,
-                } = fault.numbers();
-                match sitting {
-                    None => Outcome::refusal_with_two(number, of_fault.into(), place as u64),
+                let fault = fault.numbers();
+                match fault.sitting {
+                    None => Outcome::refusal_with_two(
+                        number,
+                        fault.number.into(),
+                        fault.place as u64,
+                    ),
                     Some(sitting) => Outcome {
                         accepted: false,
                         count: 4,
                         numbers: [
                             number.into(),
                             sitting_number(sitting),
-                            of_fault.into(),
-                            place as u64,
+                            fault.number.into(),
+                            fault.place as u64,
                         ],
                     },
                 }

@@ -1,5 +1,5 @@
 ghost use Rattle.std.specs.Prelude.{IfOk};
-ghost use Rattle.file_registers.specs.Making.{IsBound, MadeOfOne, MadeOfTwo};
+ghost use Rattle.file_registers.specs.Making.{DistanceIsBounded, MadeOfOne, MadeOfTwo};
 
 use crate::registers::{FileRegister, NotMade};
 use chart::top::Top;
@@ -11,12 +11,10 @@ impl FileRegister {
     /// A fresh register over the chart in a file with these bytes, and over a top of that number.
     pub fn of_one(bytes: &[u8], top: u64) -> Result<FileRegister, NotMade>
         ensures made { MadeOfOne bytes.now top result }
-        ensures distance { IfOk result IsBound }
+        ensures distance { IfOk result DistanceIsBounded }
     {
         let chart = FileChart::read(bytes).map_err(NotMade::First)?;
-        let Ok(top) = Top::new(top) else {
-            return Err(NotMade::Top);
-        };
+        let top = Top::new(top).map_err(|_| NotMade::Top)?;
         Ok(FileRegister::One(Register::new(chart, top)))
     }
 
@@ -25,16 +23,9 @@ impl FileRegister {
         ensures { MadeOfTwo first.now second.now top result }
     {
         let first = FileChart::read(first).map_err(NotMade::First)?;
-        let second = match FileChart::read(second) {
-            Ok(second) => second,
-            Err(refusal) => return Err(NotMade::Second(refusal)),
-        };
-        let Ok(top) = Top::new(top) else {
-            return Err(NotMade::Top);
-        };
-        let Ok(chart) = Sittings::new(first, second) else {
-            return Err(NotMade::Misfit);
-        };
+        let second = FileChart::read(second).map_err(NotMade::Second)?;
+        let top = Top::new(top).map_err(|_| NotMade::Top)?;
+        let chart = Sittings::new(first, second).map_err(|_| NotMade::Misfit)?;
         Ok(FileRegister::Two(Register::new(chart, top)))
     }
 }
