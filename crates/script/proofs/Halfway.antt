@@ -1,5 +1,5 @@
 -- A script that is played in part.
-use Rattle.std.proofs.Common.{◌≡◌, ℕ, ◌<◌, ◌⊎◌, inl, inr, List, [], ◌++◌, length, ℤ, None, Some, Ok, Err, Option, Result, IfSome, refl, ap, subst, append_assoc, append-nil}
+use Rattle.std.proofs.Common.{◌≡◌, ℕ, ◌+◌, ◌-◌, ◌^◌, ◌<◌, min, ◌⊎◌, inl, inr, List, [], length, ℤ, None, Some, Ok, Err, Option, Result, IfSome, refl, ap, subst, append_assoc, append-nil, add-zero, suc, arith}
 use Rattle.std.specs.Fmt.{option_append}
 use Rattle.std.specs.Io.BufRead.{first_piece, DropsThrough}
 use Rattle.std.specs.Io.KnownBytes.{Appends, IsAtEnd}
@@ -10,7 +10,9 @@ use Rattle.commands.specs.Reading.{line_read, with_words}
 use Rattle.lines.specs.declared.malformed.Malformed.{Malformed}
 use Rattle.lines.specs.declared.malformed.Malformed.TheVariants.{Memory}
 use Rattle.script.specs.declared.report.items.Outcomes.{Outcomes}
-use Rattle.script.specs.Session.{first_line, lines_after, no_outcomes, Line, Script, over, turn}
+use Rattle.script.specs.Session.{next_line, lines_after, no_outcomes, IsWrong, StopsAt, Ends, Line, Script, none, turn}
+use Rattle.script.specs.declared.session.Stop.{Stop}
+use Rattle.script.specs.declared.session.Stop.TheVariants.{Line as AtLine, Io}
 use Rattle.script.proofs.Written.{appends_none, appends_more}
 
 none_before : (b : Option (List ℕ)) → option_append (Some []) b ≡ b
@@ -37,45 +39,71 @@ written_more was mid now (Some xs) None p q = tt
 written_more was mid now (Some xs) (Some ys) p q = appends_more was mid now xs ys p q
 
 module _ {F : Type 0} (fault : F → Option (List ℕ)) (m : Meaning F) (K : ℕ) (bs : List ℕ) (σ : State) (was : Option (List ℕ)) where
-  -- In the state ρ, with the counts n, some lines are left; whatever they come to, the whole script comes to that, with what is written so far before it.
-  pub record Halfway (known : Option (List ℕ)) (ρ : State) (n : Outcomes) (now : Option (List ℕ)) : Type 0 where
+  -- In the state ρ, with the counts n, the lines are left that are known; however many of them are played, the whole script comes to that, with what is written so far before it.
+  pub record Halfway (known : Option (List ℕ)) (number : ℕ) (ρ : State) (n : Outcomes) (now : Option (List ℕ)) : Type 0 where
     pub left : List ℕ
     pub left_is : known ≡ Some left
+    pub count : ℕ
+    pub number_is : number ≡ min count (2 ^ 64 - 1)
     pub text : Option (List ℕ)
     pub written : IfSome text (Appends was now)
-    pub goes_on : (more : Option (List ℕ)) (τ : State) (p : Outcomes) → Script fault m K left ρ n more τ p → Script fault m K bs σ no_outcomes (option_append text more) τ p
+    pub goes_on : (j : ℕ) (more : Option (List ℕ)) (τ : State) (p : Outcomes) (rest : List ℕ) → Script fault m K left ρ n j more τ p rest
+        → Script fault m K bs σ no_outcomes (count + j) (option_append text more) τ p rest
 
-  pub begun : (known : Option (List ℕ)) → known ≡ Some bs → Halfway known σ no_outcomes was
+  pub begun : (known : Option (List ℕ)) → known ≡ Some bs → Halfway known 0 σ no_outcomes was
   begun known e = record {
     left = bs;
     left_is = e;
+    count = 0;
+    number_is = refl;
     text = Some [];
     written = appends_none was;
-    goes_on = λ more τ p s. rw (none_before more) s;
+    goes_on = λ j more τ p rest s. let here : 0 + j ≡ j = omega arith in rw (here, none_before more) s;
   }
 
-  module _ (known next : Option (List ℕ)) (ρ : State) (n : Outcomes) (now : Option (List ℕ)) (h : Halfway known ρ n now)
+  -- what is played so far
+  so_far : (known : Option (List ℕ)) (number : ℕ) (ρ : State) (n : Outcomes) (now : Option (List ℕ)) (h : Halfway known number ρ n now)
+      → Script fault m K bs σ no_outcomes h.count h.text ρ n h.left
+  so_far known number ρ n now h =
+      rw (add-zero, none_after h.text) at (h.goes_on 0 (Some []) ρ n h.left none)
+
+  module _ (known next : Option (List ℕ)) (number : ℕ) (ρ : State) (n : Outcomes) (now : Option (List ℕ)) (h : Halfway known number ρ n now)
       (line : List ℕ) (yielded : IfSome known (λ xs. (0 < length xs) × (line ≡ first_piece 10 xs)) × DropsThrough known next 10) where
-    line_is : line ≡ first_line h.left
+    line_is : line ≡ next_line h.left
     line_is = (rw h.left_is at yielded.0).1
 
     next_is : next ≡ Some (lines_after h.left)
     next_is = rw h.left_is at yielded.1
 
-    pub next_line : (a : Option (List ℕ)) (ρ' : State) (n' : Outcomes) (later : Option (List ℕ)) → Line fault m K line ρ n a ρ' n' → IfSome a (Appends now later) → Halfway next ρ' n' later
-    next_line a ρ' n' later played wrote = record {
+    pub line_played : (a : Option (List ℕ)) (ρ' : State) (n' : Outcomes) (later : Option (List ℕ)) (number' : ℕ) → number' ≡ min (number + 1) (2 ^ 64 - 1)
+        → Line fault m K line ρ n a ρ' n' → IfSome a (Appends now later) → Halfway next number' ρ' n' later
+    line_played a ρ' n' later number' e plays wrote = record {
       left = lines_after h.left;
       left_is = next_is;
+      count = h.count + 1;
+      number_is = omega (arith, e, h.number_is);
       text = option_append h.text a;
       written = written_more was now later h.text a h.written wrote;
-      goes_on = λ more τ p s. rw (append_append h.text a more) (h.goes_on _ τ p (turn a more (rw line_is at played) s));
+      goes_on = λ j more τ p rest s.
+          let here : h.count + 1 + j ≡ h.count + suc j = omega arith in rw (append_append h.text a more, here) (h.goes_on _ _ τ p rest (turn a more (rw line_is at plays) s));
     }
 
-  pub done : (known : Option (List ℕ)) (ρ : State) (n : Outcomes) (now : Option (List ℕ)) → Halfway known ρ n now → IsAtEnd known
-      → (text : Option (List ℕ)) × Script fault m K bs σ no_outcomes text ρ n × IfSome text (Appends was now)
-  done known ρ n now h end =
-      let none : h.left ≡ [] = rw h.left_is at end in
-      (h.text, rw (← none_after h.text) (h.goes_on (Some []) ρ n (rw none over)), h.written)
+    -- the script stops at this line
+    stopped : (wrong : Malformed) (number' : ℕ) → number' ≡ min (number + 1) (2 ^ 64 - 1) → IsWrong line wrong → Ends fault m K (Appends was now) bs σ (Err (AtLine number' wrong)) ρ
+    stopped wrong number' e is =
+        let here : number' ≡ min (h.count + 1) (2 ^ 64 - 1) = omega (arith, e, h.number_is) in
+        (h.count, h.text, n, h.left, so_far known number ρ n now h, h.written, here, rw line_is at is)
+
+    pub stops : (stop : Stop) {U : Type 0} (number' : ℕ) (ρ' : State) (later : Option (List ℕ)) → number' ≡ min (number + 1) (2 ^ 64 - 1) → StopsAt number' line U stop
+        → (U → (ρ' ≡ ρ) × (later ≡ now)) → Ends fault m K (Appends was later) bs σ (Err stop) ρ'
+    stops (AtLine k wrong) number' ρ' later e at same =
+        let u = same at.2 in rw (u.0, u.1, at.0) (stopped wrong number' e at.1)
+    stops (Io x) number' ρ' later e at same = tt
+
+  pub done : (known : Option (List ℕ)) (number : ℕ) (ρ : State) (n : Outcomes) (now : Option (List ℕ)) → Halfway known number ρ n now → IsAtEnd known → Ends fault m K (Appends was now) bs σ (Ok n) ρ
+  done known number ρ n now h end =
+      let none_left : h.left ≡ [] = rw h.left_is at end in
+      (h.count, h.text, rw none_left at (so_far known number ρ n now h), h.written)
 
 -- A reader may not say which bytes it has left; of one that does, the same is claimed.
 pub if_some : {A : Type 0} {P Q : A → Type 0} (o : Option A) → ((x : A) → P x → Q x) → IfSome o P → IfSome o Q
@@ -83,7 +111,7 @@ if_some None f p = tt
 if_some (Some x) f p = f x p
 
 pub all_left : {F : Type 0} (fault : F → Option (List ℕ)) (m : Meaning F) (K : ℕ) (σ : State) (was : Option (List ℕ)) (known : Option (List ℕ))
-    → IfSome known (λ bs. Halfway fault m K bs σ was known σ no_outcomes was)
+    → IfSome known (λ bs. Halfway fault m K bs σ was known 0 σ no_outcomes was)
 all_left fault m K σ was None = tt
 all_left fault m K σ was (Some bs) = begun fault m K bs σ was (Some bs) refl
 

@@ -1,5 +1,5 @@
 -- What comes of the lines of a script, played one after another, and what is written of them.
-use Rattle.std.specs.Prelude.{◌≡◌, ℕ, List, [], None, Some, Ok, Option, ℤ, Result}
+use Rattle.std.specs.Prelude.{◌≡◌, ℕ, suc, ◌+◌, ◌-◌, ◌^◌, min, ◌⊎◌, ⊤, List, [], None, Some, Ok, Err, Option, IfSome, ℤ, Result}
 use Rattle.std.specs.Fmt.{option_append}
 use Rattle.std.specs.Io.BufRead.{first_piece, drop_through}
 use Rattle.chart.specs.Meaning.{Meaning}
@@ -7,18 +7,31 @@ use Rattle.history.specs.Rules.{State}
 use Rattle.commands.specs.declared.command.Command.{Command}
 use Rattle.commands.specs.Reading.{line_read}
 use Rattle.script.specs.declared.answer.Answer.{Answer}
+use Rattle.lines.specs.declared.malformed.Malformed.{Malformed}
+use Rattle.lines.specs.declared.malformed.Malformed.TheVariants.{Memory}
 use Rattle.script.specs.declared.rejection.Rejection.{Rejection}
+use Rattle.script.specs.declared.session.Stop.{Stop}
+use Rattle.script.specs.declared.session.Stop.TheVariants.{Line as AtLine, Io}
 use Rattle.script.specs.declared.report.items.Outcomes.{Outcomes}
 use Rattle.script.specs.Lines.{outcome_line}
 use Rattle.script.specs.Playing.{Plays}
 use Rattle.script.specs.Report.{counted, is_accepted, is_refused}
 
 -- the line that bytes begin with, up to a line feed, and the bytes after it
-abbrev pub first_line : List ℕ → List ℕ
-first_line bs = first_piece 10 bs
+abbrev pub next_line : List ℕ → List ℕ
+next_line bs = first_piece 10 bs
 
 abbrev pub lines_after : List ℕ → List ℕ
 lines_after bs = drop_through 10 bs
+
+-- what is wrong with a line, if it is not that memory is wanting
+abbrev pub IsWrong : List ℕ → Malformed → Type 0
+IsWrong line wrong = (wrong ≡ Memory) ⊎ (line_read line ≡ Err wrong)
+
+-- a line of this number stops the script, and changes nothing
+abbrev pub StopsAt : ℕ → List ℕ → Type 0 → Stop → Type 0
+StopsAt number line Unchanged (AtLine k wrong) = (k ≡ number) × IsWrong line wrong × Unchanged
+StopsAt number line Unchanged (Io e) = ⊤
 
 -- no call yet
 abbrev pub no_outcomes : Outcomes
@@ -36,8 +49,16 @@ module _ {F : Type 0} (fault : F → Option (List ℕ)) (m : Meaning F) (K : ℕ
     played : {τ : State} (c : Command) (ws : List ℤ) (r : Result Answer (Rejection F)) → line_read line ≡ Ok (Some (c, ws)) → Plays m K σ c ws r τ
         → Line line σ n (outcome_line fault c r) τ (with_outcome n r)
 
-  -- The lines of these bytes, played one after another, and all that is written.
-  pub data Script : List ℕ → State → Outcomes → Option (List ℕ) → State → Outcomes → Type 0 where
-    over : {σ : State} {n : Outcomes} → Script [] σ n (Some []) σ n
-    turn : {bs : List ℕ} {σ ρ τ : State} {n k p : Outcomes} (a b : Option (List ℕ))
-        → Line (first_line bs) σ n a ρ k → Script (lines_after bs) ρ k b τ p → Script bs σ n (option_append a b) τ p
+  -- So many lines of these bytes are played, one after another; this is written in all, and the last bytes are left.
+  pub data Script : List ℕ → State → Outcomes → ℕ → Option (List ℕ) → State → Outcomes → List ℕ → Type 0 where
+    none : {bs : List ℕ} {σ : State} {n : Outcomes} → Script bs σ n 0 (Some []) σ n bs
+    turn : {bs rest : List ℕ} {σ ρ τ : State} {n k p : Outcomes} {j : ℕ} (a b : Option (List ℕ))
+        → Line (next_line bs) σ n a ρ k → Script (lines_after bs) ρ k j b τ p rest → Script bs σ n (suc j) (option_append a b) τ p rest
+
+  -- The script is played to its end; or up to a line that is malformed, or whose words want memory; or reading or writing fails. W tells what is written.
+  abbrev pub Ends : (List ℕ → Type 0) → List ℕ → State → Result Outcomes Stop → State → Type 0
+  Ends W bs σ (Ok p) τ = (j : ℕ) × (text : Option (List ℕ)) × Script bs σ no_outcomes j text τ p [] × IfSome text W
+  Ends W bs σ (Err (AtLine number wrong)) τ =
+      (j : ℕ) × (text : Option (List ℕ)) × (p : Outcomes) × (rest : List ℕ) × Script bs σ no_outcomes j text τ p rest × IfSome text W
+      × (number ≡ min (j + 1) (2 ^ 64 - 1)) × IsWrong (next_line rest) wrong
+  Ends W bs σ (Err (Io e)) τ = ⊤

@@ -1,10 +1,10 @@
 //! Scripts: the lines of commands that are played against a register, one after another.
-ghost use Rattle.std.specs.Prelude.{◌≡◌, OnOk, IfOk, IfSome, List, ℕ, Option};
+ghost use Rattle.std.specs.Prelude.{◌≡◌, OnOk, IfErr, IfSome, List, ℕ, Option};
 ghost use Rattle.std.specs.Io.KnownBytes.{Appends};
 ghost use Rattle.history.specs.Promises.{KeepsPromise};
 ghost use Rattle.register.specs.Held.{chart_of, held, top_of};
 ghost use Rattle.script.specs.declared.session.Stop.TheVariants.{Io};
-ghost use Rattle.script.specs.Session.{Line, Script, no_outcomes};
+ghost use Rattle.script.specs.Session.{Ends, Line, StopsAt};
 
 use crate::play::play;
 use crate::report::Outcomes;
@@ -51,6 +51,7 @@ where
     ensures line { OnOk result ((text : Option (List ℕ))
         × Line C.Fault.output (C.Chart.meaning (chart_of register.old)) (top_of register.old) line.now (held register.old) outcomes.old text (held register.new) outcomes.new
         × IfSome text (Appends (W.Write.contents out.old) (W.Write.contents out.new))) }
+    ensures malformed { IfErr result (StopsAt number line.now ((register.new ≡ register.old) × (outcomes.new ≡ outcomes.old) × (out.new ≡ out.old))) }
 {
     let command = read_line(line, words).map_err(|wrong| Stop::Line(number, wrong))?;
     if let Some(command) = command {
@@ -73,9 +74,7 @@ where
     ensures chart { chart_of register.new ≡ chart_of register.old }
     ensures top { top_of register.new ≡ top_of register.old }
     ensures promise { KeepsPromise (C.Chart.meaning (chart_of register.new)) (top_of register.new) (held register.new) }
-    ensures script { IfOk result (λ p. IfSome (R.remaining input) (λ bs. (text : Option (List ℕ))
-        × Script C.Fault.output (C.Chart.meaning (chart_of register.old)) (top_of register.old) bs (held register.old) no_outcomes text (held register.new) p
-        × IfSome text (Appends (W.Write.contents out.old) (W.Write.contents out.new)))) }
+    ensures script { IfSome (R.remaining input) (λ bs. Ends C.Fault.output (C.Chart.meaning (chart_of register.old)) (top_of register.old) (Appends (W.Write.contents out.old) (W.Write.contents out.new)) bs (held register.old) result (held register.new)) }
 {
     let mut words = Vec::new(heap);
     let mut outcomes = Outcomes::default();

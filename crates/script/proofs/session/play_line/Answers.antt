@@ -1,5 +1,4 @@
-use Rattle.std.proofs.Common.{rules, ◌≡◌, Some, None, Ok, refl, sym, ◌∙◌}
-use Rattle.commands.specs.Reading.{line_read}
+use Rattle.std.proofs.Common.{rules, ◌≡◌, Some, None, Ok, sym}
 use Rattle.script.specs.Lines.{outcome_line}
 use Rattle.script.specs.Session.{passed, played}
 use Rattle.script.proofs.Written.{appends_none}

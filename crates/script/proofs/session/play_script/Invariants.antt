@@ -10,5 +10,5 @@ invariant-loop-line g l = record {
   top : top_of l.register ≡ top_of l.initial.register;
   byte : split_byte l.line-iterator ≡ 10;
   script : IfSome (g.R.Read.remaining l.fn.input) (λ bs. Halfway g.C.Fault.Display.output (g.C.Chart.meaning (chart_of l.initial.register)) (top_of l.initial.register) bs (held l.initial.register)
-      (g.W.Write.contents l.initial.out) (split_known_bytes g.R.Read.remaining l.line-iterator) (held l.register) l.outcomes (g.W.Write.contents l.out));
+      (g.W.Write.contents l.initial.out) (split_known_bytes g.R.Read.remaining l.line-iterator) l.number (held l.register) l.outcomes (g.W.Write.contents l.out));
 }
