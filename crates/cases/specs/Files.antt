@@ -1,6 +1,8 @@
 -- The chart files of the worked cases, byte by byte, and what a chart file is read as.
-use Rattle.std.specs.Prelude.{◌≡◌, ℕ, ◌/◌, ◌%◌, List, [], ◌∷◌, ◌++◌, replicate, Ok, Err, Result}
+use Rattle.std.specs.Prelude.{◌≡◌, ℕ, ◌/◌, ◌%◌, List, [], ◌∷◌, ◌++◌, replicate, Some, None, Ok, Err, Option, Result}
 use Rattle.std.specs.List.{flat_map}
+use Rattle.files.specs.declared.kind.Kind.{Kind}
+use Rattle.files.specs.declared.kind.Kind.TheVariants as kind
 use Rattle.files.specs.declared.refusal.ReadRefusal.{ReadRefusal}
 use Rattle.files.specs.Refusals.{number, place}
 use Rattle.weighted.specs.Reading as weighted_files
@@ -32,6 +34,12 @@ file_of_33 = sixteen (1 ∷ 33 ∷ 1 ∷ 2 ∷ 4 ∷ 16 ∷ 20 ∷ 16 ∷ [])
 
 abbrev pub file_of_no_discount : List ℕ
 file_of_no_discount = sixteen (1 ∷ 4 ∷ 2 ∷ 2 ∷ 4 ∷ 16 ∷ 20 ∷ 16 ∷ [])
+
+-- what the reader of the kind that a file names answers; a file that names none is read as a weighted chart
+abbrev pub read_answer : Option Kind → List ℕ → Result ℕ ReadRefusal
+read_answer None bytes = weighted_files.read_answer bytes
+read_answer (Some kind.Weighted) bytes = weighted_files.read_answer bytes
+read_answer (Some kind.Choice) bytes = choice_files.read_answer bytes
 
 -- the file holds the chart, or it is refused as one of a weighted chart, with this number and place
 abbrev pub ReadAs : List ℕ → Result Chart (List ℕ) → Type 0

@@ -1,3 +1,7 @@
+ghost use Rattle.std.specs.Prelude.{◌≡◌};
+ghost use Rattle.files.specs.Kinds.{kind_named};
+ghost use Rattle.cases.specs.Files.{read_answer};
+
 use crate::cases::{Case, ChartName};
 use crate::charts::{read_four, read_three, read_widest};
 use chart::kind::Chart;
@@ -53,7 +57,9 @@ fn title(chart: ChartName) -> &'static str {
 }
 
 /// Reads a file as the kind of chart that it names, and answers how many sections the chart has.
-fn read_file(bytes: &[u8]) -> Result<usize, ReadRefusal> {
+fn read_file(bytes: &[u8]) -> Result<usize, ReadRefusal>
+    ensures { result ≡ read_answer (kind_named bytes.now) bytes.now }
+{
     match Kind::of(bytes) {
         Some(Kind::Choice) => Choice::fresh().read(bytes),
         Some(Kind::Weighted) | None => Weighted::fresh().read(bytes),

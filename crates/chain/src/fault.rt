@@ -64,50 +64,36 @@ impl fmt::Display for Fault {
 
     fn fmt<W: fmt::Write>(&self, f: &mut fmt::Formatter<W>) -> fmt::Result {
         match *self {
-            Fault::Unjudged => {
-                write!(
-                    f,
-                    "100 0 (the pair is apart, or has a section that the chart has not)"
-                )
-            }
-            Fault::PairingCount(k) => {
-                write!(
-                    f,
-                    "101 {k} (a pairing cannot have {k} words: it has triples, at most 1,024)"
-                )
-            }
+            Fault::Unjudged => write!(
+                f,
+                "100 0 (the pair is apart, or has a section that the chart has not)"
+            ),
+            Fault::PairingCount(k) => write!(
+                f,
+                "101 {k} (a pairing cannot have {k} words: it has triples, at most 1,024)"
+            ),
             Fault::Section(i) => write!(f, "102 {i} (word {i} names no section)"),
-            Fault::Amount(i) => {
-                write!(
-                    f,
-                    "103 {i} (word {i} is no amount from 1 to the parts of a row)"
-                )
-            }
-            Fault::FirstMargin(u) => {
-                write!(
-                    f,
-                    "104 {u} (the amounts at section {u} do not add up to its part)"
-                )
-            }
-            Fault::SecondMargin(v) => {
-                write!(
-                    f,
-                    "105 {v} (the amounts at section {v} do not add up to its part in the second row)"
-                )
-            }
-            Fault::PotentialsCount(k) => {
-                write!(
-                    f,
-                    "111 {k} (potentials cannot have {k} words: they have two for each section)"
-                )
-            }
+            Fault::Amount(i) => write!(
+                f,
+                "103 {i} (word {i} is no amount from 1 to the parts of a row)"
+            ),
+            Fault::FirstMargin(u) => write!(
+                f,
+                "104 {u} (the amounts at section {u} do not add up to its part)"
+            ),
+            Fault::SecondMargin(v) => write!(
+                f,
+                "105 {v} (the amounts at section {v} do not add up to its part in the second row)"
+            ),
+            Fault::PotentialsCount(k) => write!(
+                f,
+                "111 {k} (potentials cannot have {k} words: they have two for each section)"
+            ),
             Fault::Range(i) => write!(f, "112 {i} (word {i} is further from 0 than the top)"),
-            Fault::Above(i) => {
-                write!(
-                    f,
-                    "113 {i} (the potentials of the successors at place {i} add up to more than their entry)"
-                )
-            }
+            Fault::Above(i) => write!(
+                f,
+                "113 {i} (the potentials of the successors at place {i} add up to more than their entry)"
+            ),
         }
     }
 }

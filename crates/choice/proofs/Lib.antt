@@ -1,4 +1,3 @@
-mod Searches
 mod Pairs
 mod Scan
 mod Marks

@@ -1,10 +1,10 @@
 -- What a line asks for, or what is wrong with it.
-use Rattle.std.specs.Prelude.{ℕ, ◌+◌, cond, List, [], ◌∷◌, drop, ℤ, Some, None, Ok, Err, Option, Result}
+use Rattle.std.specs.Prelude.{ℕ, ◌+◌, cond, List, [], ◌∷◌, length, drop, ℤ, Some, None, Ok, Err, Option, Result}
 use Rattle.std.specs.Option.{ok_or}
 use Rattle.chart.specs.declared.side.Side.{Side}
 use Rattle.lines.specs.Fields.{fields}
 use Rattle.lines.specs.Numerals.{number_of}
-use Rattle.lines.specs.Reading.{◌then◌, comment, first, side_of, words_from}
+use Rattle.lines.specs.Reading.{◌then◌, comment, first, side_of, words_before, words_from}
 use Rattle.lines.specs.declared.malformed.Malformed.{Malformed}
 use Rattle.lines.specs.declared.malformed.Malformed.TheVariants.{UnknownCommand, TooManyFields, NotASide, NotANumber}
 use Rattle.commands.specs.declared.command.Command.{Command}
@@ -65,3 +65,14 @@ abbrev pub with_words : Result (Option Command) Malformed → List ℤ → Resul
 with_words (Ok None) ws = Ok None
 with_words (Ok (Some c)) ws = Ok (Some (c, ws))
 with_words (Err e) ws = Err e
+
+-- how many words are to be kept: all of the command's, or those before what is wrong
+abbrev pub command_words : Result (Command × List ℤ) Malformed → ℕ
+command_words (Ok p) = length p.1
+command_words (Err e) = words_before e
+
+-- how many words of a line are to be kept: all, or those before what is wrong
+abbrev pub line_words : Result (Option (Command × List ℤ)) Malformed → ℕ
+line_words (Ok None) = 0
+line_words (Ok (Some p)) = length p.1
+line_words (Err e) = words_before e

@@ -1,8 +1,8 @@
-ghost use Rattle.std.specs.Prelude.{◌≡◌, ℕ, ◌<◌, ◌≤◌, ◌⊎◌, [], length, Ok, Err, vec_capacity, MatchResult};
+ghost use Rattle.std.specs.Prelude.{◌≡◌, ℕ, ◌<◌, ◌≤◌, ◌⊎◌, [], Ok, Err, vec_capacity, MatchResult};
 ghost use Rattle.lines.specs.Fields.{fields};
 ghost use Rattle.lines.specs.declared.malformed.Malformed.TheVariants.{Memory};
 ghost use Rattle.commands.specs.Parts.{tail};
-ghost use Rattle.commands.specs.Reading.{Reading, command_read, line_read, no_more, two_sections, with_words};
+ghost use Rattle.commands.specs.Reading.{Reading, command_read, command_words, line_read, line_words, no_more, two_sections, with_words};
 
 use crate::command::Command;
 use crate::name::{Name, read_name};
@@ -14,7 +14,7 @@ use lines::parts::{begin_line, number_field, read_words, side_field};
 fn section_fields(bytes: &[u8], k: usize) -> Result<(u32, u32, &[u8]), Malformed>
     requires { k ≤ 2 }
     ensures { MatchResult result
-        (λ p. ((next : ℕ → ℕ → Reading) → two_sections k next (fields bytes.now) ≡ next p.0 p.1 (fields p.2.now)) × (length (fields p.2.now) ≤ length (fields bytes.now)))
+        (λ p. (next : ℕ → ℕ → Reading) → two_sections k next (fields bytes.now) ≡ next p.0 p.1 (fields p.2.now))
         (λ e. (next : ℕ → ℕ → Reading) → two_sections k next (fields bytes.now) ≡ Err e) }
 {
     let (s, rest) = number_field(bytes, k)?;
@@ -36,7 +36,7 @@ fn no_more(bytes: &[u8]) -> Result<(), Malformed>
 /// Reads the fields of the command of this name, up to its words, and answers what follows them.
 fn read_fields(name: Name, bytes: &[u8]) -> Result<(Command, &[u8]), Malformed>
     ensures { MatchResult result
-        (λ p. (command_read name (fields bytes.now) ≡ tail p.0 (fields p.1.now)) × (length (fields p.1.now) ≤ length (fields bytes.now)))
+        (λ p. command_read name (fields bytes.now) ≡ tail p.0 (fields p.1.now))
         (λ e. command_read name (fields bytes.now) ≡ Err e) }
 {
     match name {
@@ -72,7 +72,7 @@ fn read_fields(name: Name, bytes: &[u8]) -> Result<(Command, &[u8]), Malformed>
 fn read_command(name: Name, bytes: &[u8], words: &mut Vec<i32>) -> Result<Command, Malformed>
     ensures { MatchResult result
         (λ c. command_read name (fields bytes.now) ≡ Ok (c, words.new.items))
-        (λ e. ((e ≡ Memory) × (vec_capacity words.old < length (fields bytes.now))) ⊎ (command_read name (fields bytes.now) ≡ Err e)) }
+        (λ e. ((e ≡ Memory) × (vec_capacity words.old < command_words (command_read name (fields bytes.now)))) ⊎ (command_read name (fields bytes.now) ≡ Err e)) }
 {
     let (command, rest) = read_fields(name, bytes)?;
     if command.takes_words() {
@@ -87,9 +87,9 @@ fn read_command(name: Name, bytes: &[u8], words: &mut Vec<i32>) -> Result<Comman
 /// Reads one line, and the words of a `show` or a `weigh` into `words`, which any other command empties.
 ///
 /// A line that is passed over asks for nothing. Of several things that are wrong, the answer is the first in the line.
-/// Memory is wanting only if `words` has room for fewer words than the line has fields.
+/// Memory is wanting only if `words` has room for fewer words than the line has, or has before what is wrong with it.
 pub fn read_line(line: &[u8], words: &mut Vec<i32>) -> Result<Option<Command>, Malformed>
-    ensures { ((result ≡ Err Memory) × (vec_capacity words.old < length (fields line.now))) ⊎ (with_words result words.new.items ≡ line_read line.now) }
+    ensures { ((result ≡ Err Memory) × (vec_capacity words.old < line_words (line_read line.now))) ⊎ (with_words result words.new.items ≡ line_read line.now) }
 {
     let Some((first, rest)) = begin_line(line) else {
         return Ok(None);

@@ -1,9 +1,9 @@
 -- The words of a line, one after the other.
-use Rattle.std.proofs.Common.{◌≡◌, ℕ, ◌+◌, List, [], ◌∷◌, ◌++◌, ℤ, Some, None, Ok, Err, Result, refl, ap, append_assoc, append-nil}
+use Rattle.std.proofs.Common.{◌≡◌, ℕ, ◌+◌, ◌≤◌, List, [], ◌∷◌, ◌++◌, length, ℤ, Some, None, Ok, Err, Option, Result, refl, sym, ap, append_assoc, append-nil, length-append, arith}
 use Rattle.lines.specs.declared.malformed.Malformed.{Malformed}
 use Rattle.lines.specs.declared.malformed.Malformed.TheVariants.{NotAWord}
 use Rattle.lines.specs.Numerals.{word_of}
-use Rattle.lines.specs.Reading.{◌then◌, words_from}
+use Rattle.lines.specs.Reading.{◌then◌, words_from, words_kept}
 
 -- the words that were read, and then those that are left to read
 abbrev pub onto : List ℤ → Result (List ℤ) Malformed → Result (List ℤ) Malformed
@@ -25,3 +25,11 @@ module _ (ws : List ℤ) (k : ℕ) (fs : List (List ℕ)) where
   pub words_all : fs ≡ [] → onto ws (words_from k fs) ≡ Ok ws
   unfolding words_from
   words_all e = rw e (ap Ok (append-nil ws))
+
+-- the words that were read are among those to be kept
+pub kept : (ws : List ℤ) (k : ℕ) (fs : List (List ℕ)) → length ws ≤ k → length ws ≤ words_kept (onto ws (words_from k fs))
+kept ws k [] le = rw (words_all ws k [] refl) (omega arith)
+kept ws k (f ∷ fs) le = by (word_of f) refl (λ w. kept (ws ++ w ∷ []) (k + 1) fs (grind (arith, length-append))) where
+  by : (o : Option ℤ) → word_of f ≡ o → ((w : ℤ) → length (ws ++ w ∷ []) ≤ words_kept (onto (ws ++ w ∷ []) (words_from (k + 1) fs))) → length ws ≤ words_kept (onto ws (words_from k (f ∷ fs)))
+  by None is more = rw (words_wrong ws k (f ∷ fs) f fs refl is) le
+  by (Some w) is more = rw (sym (words_more ws k (f ∷ fs) f fs w refl is)) (grind (arith, length-append, more w))

@@ -1,5 +1,5 @@
 -- What the parts of a line say, or what is wrong with them.
-use Rattle.std.specs.Prelude.{ℕ, ◌+◌, Bool, true, cond, List, [], ◌∷◌, ℤ, Some, None, Ok, Err, codes, Option, Result, ◌==◌, slice_index}
+use Rattle.std.specs.Prelude.{ℕ, ◌+◌, Bool, true, cond, List, [], ◌∷◌, length, ℤ, Some, None, Ok, Err, codes, Option, Result, ◌==◌, slice_index}
 use Rattle.std.specs.Option.{ok_or}
 use Rattle.std.specs.Str.{bytes_eq}
 use Rattle.chart.specs.declared.side.Side.{Side}
@@ -35,3 +35,13 @@ comment f = slice_index f 0 == 35
 abbrev pub passed_over : List (List ℕ) → Bool
 passed_over [] = true
 passed_over (f ∷ fs) = comment f
+
+-- how many words stand before what is wrong
+abbrev pub words_before : Malformed → ℕ
+words_before (NotAWord k) = k
+words_before _ = 0
+
+-- how many words are to be kept: all, or those before what is wrong
+abbrev pub words_kept : Result (List ℤ) Malformed → ℕ
+words_kept (Ok ws) = length ws
+words_kept (Err e) = words_before e

@@ -2,7 +2,7 @@ ghost use Rattle.std.specs.Prelude.{◌≡◌, ℕ, ◌<◌, true, false, ◌⊎
 ghost use Rattle.std.specs.Fn.{FnOnceReturnsAt};
 ghost use Rattle.lines.specs.Fields.{fields};
 ghost use Rattle.lines.specs.Numerals.{number_of};
-ghost use Rattle.lines.specs.Reading.{comment, first, passed_over, side_of, words_from};
+ghost use Rattle.lines.specs.Reading.{comment, first, passed_over, side_of, words_from, words_kept};
 ghost use Rattle.lines.specs.declared.malformed.Malformed.TheVariants.{Memory, NotASide, NotANumber};
 
 use crate::fields::split_field;
@@ -60,10 +60,12 @@ pub fn number_field(bytes: &[u8], k: usize) -> Result<(u32, &[u8]), Malformed>
 }
 
 /// Reads the words that all fields write into `words`, in place of what it holds.
+///
+/// Memory is wanting only if `words` has room for fewer words than there are before the first field that is none.
 pub fn read_words(bytes: &[u8], words: &mut Vec<i32>) -> Result<(), Malformed>
     ensures { MatchResult result
         (λ _. words_from 0 (fields bytes.now) ≡ Ok words.new.items)
-        (λ e. ((e ≡ Memory) × (vec_capacity words.old < length (fields bytes.now))) ⊎ (words_from 0 (fields bytes.now) ≡ Err e)) }
+        (λ e. ((e ≡ Memory) × (vec_capacity words.old < words_kept (words_from 0 (fields bytes.now)))) ⊎ (words_from 0 (fields bytes.now) ≡ Err e)) }
 {
     words.clear();
     let mut rest = bytes;

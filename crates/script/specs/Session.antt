@@ -1,11 +1,11 @@
 -- What comes of the lines of a script, played one after another, and what is written of them.
-use Rattle.std.specs.Prelude.{◌≡◌, ℕ, suc, ◌+◌, ◌-◌, ◌^◌, min, ◌⊎◌, ⊤, List, [], None, Some, Ok, Err, Option, IfSome, ℤ, Result}
+use Rattle.std.specs.Prelude.{◌≡◌, ℕ, suc, ◌+◌, ◌-◌, ◌^◌, ◌<◌, min, ◌⊎◌, ⊤, List, [], None, Some, Ok, Err, Option, IfSome, ℤ, Result}
 use Rattle.std.specs.Fmt.{option_append}
 use Rattle.std.specs.Io.BufRead.{first_piece, drop_through}
 use Rattle.chart.specs.Meaning.{Meaning}
 use Rattle.history.specs.Rules.{State}
 use Rattle.commands.specs.declared.command.Command.{Command}
-use Rattle.commands.specs.Reading.{line_read}
+use Rattle.commands.specs.Reading.{line_read, line_words}
 use Rattle.script.specs.declared.answer.Answer.{Answer}
 use Rattle.lines.specs.declared.malformed.Malformed.{Malformed}
 use Rattle.lines.specs.declared.malformed.Malformed.TheVariants.{Memory}
@@ -24,9 +24,9 @@ next_line bs = first_piece 10 bs
 abbrev pub lines_after : List ℕ → List ℕ
 lines_after bs = drop_through 10 bs
 
--- what is wrong with a line, if it is not that memory is wanting
+-- what is wrong with a line, or that memory is wanting for the words that it has
 abbrev pub IsWrong : List ℕ → Malformed → Type 0
-IsWrong line wrong = (wrong ≡ Memory) ⊎ (line_read line ≡ Err wrong)
+IsWrong line wrong = ((wrong ≡ Memory) × (0 < line_words (line_read line))) ⊎ (line_read line ≡ Err wrong)
 
 -- a line of this number stops the script, and changes nothing
 abbrev pub StopsAt : ℕ → List ℕ → Type 0 → Stop → Type 0

@@ -70,37 +70,27 @@ impl fmt::Display for Fault {
 
     fn fmt<W: fmt::Write>(&self, f: &mut fmt::Formatter<W>) -> fmt::Result {
         match *self {
-            Fault::Unjudged => {
-                write!(
-                    f,
-                    "100 0 (the pair is apart, or has a section that the chart has not)"
-                )
-            }
-            Fault::PairingCount(k) => {
-                write!(
-                    f,
-                    "121 {k} (a pairing cannot have {k} words: it has pairs, at most 1,024)"
-                )
-            }
+            Fault::Unjudged => write!(
+                f,
+                "100 0 (the pair is apart, or has a section that the chart has not)"
+            ),
+            Fault::PairingCount(k) => write!(
+                f,
+                "121 {k} (a pairing cannot have {k} words: it has pairs, at most 1,024)"
+            ),
             Fault::NoSuccessor(i) => write!(f, "122 {i} (word {i} names no successor)"),
-            Fault::FirstUnpaired(u) => {
-                write!(
-                    f,
-                    "123 {u} (successor {u} of the first section is in no pair)"
-                )
-            }
-            Fault::SecondUnpaired(v) => {
-                write!(
-                    f,
-                    "124 {v} (successor {v} of the second section is in no pair)"
-                )
-            }
-            Fault::PotentialsCount(k) => {
-                write!(
-                    f,
-                    "131 {k} (potentials cannot have {k} words: they have three)"
-                )
-            }
+            Fault::FirstUnpaired(u) => write!(
+                f,
+                "123 {u} (successor {u} of the first section is in no pair)"
+            ),
+            Fault::SecondUnpaired(v) => write!(
+                f,
+                "124 {v} (successor {v} of the second section is in no pair)"
+            ),
+            Fault::PotentialsCount(k) => write!(
+                f,
+                "131 {k} (potentials cannot have {k} words: they have three)"
+            ),
             Fault::NoSide => write!(f, "132 0 (the side is not 0 or 1)"),
             Fault::NoSection => write!(f, "133 1 (the section is no successor on its side)"),
             Fault::NoFloor => write!(f, "134 2 (the floor is not from 0 to the top)"),

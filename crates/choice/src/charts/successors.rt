@@ -25,13 +25,6 @@ impl Choice {
         self.masks.get(s).copied().unwrap_or(0)
     }
 
-    /// Whether `s` has the successor `u`.
-    pub(super) fn has_successor(&self, s: usize, u: usize) -> bool
-        ensures { result ≡ successor (system self.now) s u }
-    {
-        u < self.n && self.mask(s) >> u & 1 == 1
-    }
-
     /// The successor of `s` that a word names.
     pub(super) fn named_successor(&self, s: usize, word: i32) -> Option<usize>
         ensures { MatchOption result (names (system self.now) s word ≡ false) (λ u. (word ≡ pos u) × (successor (system self.now) s u ≡ true)) }

@@ -7,11 +7,11 @@ use Rattle.commands.proofs.line.read_command.Goals as goal
 pub returns-in_ok-no_more : goal.returns-in_ok-no_more
 returns-in_ok-no_more c =
     let e = c.in_ok-no_more.ensures c.in_ok-command.command in
-    let read : command_read c.args.name (fields c.args.bytes.now) ≡ Ok (c.in_ok-command.command, []) = c.in_ok-command.ensures.0 ∙ rw (sym c.if-takes_words.ensures) e in
+    let read : command_read c.args.name (fields c.args.bytes.now) ≡ Ok (c.in_ok-command.command, []) = c.in_ok-command.ensures ∙ rw (sym c.if-takes_words.ensures) e in
     search rules
 
 pub returns-in_err-no_more : goal.returns-in_err-no_more
 returns-in_err-no_more c =
     let e = c.in_err-no_more.ensures c.in_ok-command.command in
     let p = err_from_is_err_and c.from_residual-in_err-no_more.result c.from_residual-in_err-no_more.ensures.1 in
-    rw (p.1, p.2) (inr (c.in_ok-command.ensures.0 ∙ rw (sym c.if-takes_words.ensures) e))
+    rw (p.1, p.2) (inr (c.in_ok-command.ensures ∙ rw (sym c.if-takes_words.ensures) e))
