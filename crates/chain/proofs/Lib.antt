@@ -2,6 +2,7 @@ pub mod Words
 pub mod Valid
 pub mod Couplings
 pub mod Claims
+pub mod Listing
 pub mod Diagonal
 pub mod Laws
 pub mod Exits

@@ -8,6 +8,7 @@ use Rattle.chart.specs.Meaning.{Shown}
 use Rattle.chart.specs.Supported.{Supported}
 use Rattle.chart.specs.Bands.{Judges, parted}
 use Rattle.chain.specs.Chain.{Chain}
+use Rattle.chain.specs.Pairing.{cost, Pairing}
 use Rattle.chain.specs.Meaning.{means}
 
 -- A coupling of the rows of s and t: a matrix of whole amounts whose margins are Q times the rows, for some Q from 1.
@@ -37,6 +38,12 @@ pub record NowhereRaised (c : Chain) (d : Distances) : Type 0 where
 -- a supported table is nowhere raised
 abbrev pub SupportedIsNowhereRaised : Chain → Type 0
 SupportedIsNowhereRaised c = (d : Distances) → Supported (means c) d → NowhereRaised c d
+
+-- every coupling in whole amounts is listed by a pairing, with the same total in every table
+abbrev pub WholeCouplingsArePairings : Chain → Type 0
+WholeCouplingsArePairings c =
+    (s t : ℕ) (k : Coupling c s t) → Judges c.n c.band s t → k.times ≡ 1
+    → (ws : List ℤ) × Pairing c s t ws × ((d : Distances) → cost d ws ≡ total c k d)
 
 -- what potentials show is bounded by every coupling, whatever the two tops
 abbrev pub CouplingsBoundPotentials : Chain → Type 0

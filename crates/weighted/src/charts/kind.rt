@@ -1,7 +1,7 @@
 ghost use Rattle.std.specs.Prelude.{◌≡◌, ◌*◌, slice_index};
 ghost use Rattle.chart.specs.Tables.{distances};
 ghost use Rattle.chain.specs.Meaning.{means, weighed};
-ghost use Rattle.chain.specs.Coupling.{SupportedIsNowhereRaised, CouplingsBoundPotentials};
+ghost use Rattle.chain.specs.Coupling.{SupportedIsNowhereRaised, CouplingsBoundPotentials, WholeCouplingsArePairings};
 ghost use Rattle.weighted.specs.View.{chain};
 ghost use Rattle.chain.proofs.Laws;
 ghost use Rattle.weighted.specs.Soundness.{sound};
@@ -63,6 +63,7 @@ impl Chart for Weighted {
         ensures answer { result ≡ weighed (chain self.now) side (distances table.now) s t words.now }
         ensures supported { SupportedIsNowhereRaised (chain self.now) }
         ensures bounded { CouplingsBoundPotentials (chain self.now) }
+        ensures listed { WholeCouplingsArePairings (chain self.now) }
     {
         match side {
             Side::Upper => self.weigh_pairing(table, s, t, words),
