@@ -62,7 +62,7 @@ impl InHand {
                 let made = self.make(heap, top, shape, fields.next().unwrap_or(""));
                 self.keep(made, out)
             }
-            (Some("report"), None, _) => self.register.report(heap, &self.outcomes, out),
+            (Some("report"), None, _) => Ok(self.register.report(heap, self.outcomes, out)?),
             _ => {
                 self.register
                     .play_line(heap, line, words, &mut self.outcomes, out)

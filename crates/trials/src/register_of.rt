@@ -5,10 +5,12 @@ use commands::line::read_line;
 use file_charts::charts::FileChart;
 use register::register::Register;
 use script::play::play;
-use script::report::{Outcomes, rows, tally};
+use script::report::Outcomes;
+use script::writing::write_report;
 use sittings::two::Sittings;
 use std::alloc::Global;
 use std::fmt::Display;
+use std::io;
 use std::io::Write;
 use weighted::charts::Weighted;
 
@@ -62,10 +64,10 @@ impl RegisterOf {
     pub(crate) fn report<W: Write>(
         &self,
         heap: Global,
-        outcomes: &Outcomes,
+        outcomes: Outcomes,
         out: &mut W,
-    ) -> Result<(), Failure> {
-        with_register!(self, register => report(heap, register, outcomes, out))
+    ) -> io::Result<()> {
+        with_register!(self, register => write_report(heap, register, outcomes, out))
     }
 }
 
@@ -92,22 +94,4 @@ where
     };
     let numbers = text.as_str().split(" (").next().unwrap_or("");
     Ok(writeln!(out, "{numbers}")?)
-}
-
-/// Writes the rows of all pairs, and then how many calls and pairs there are of each sort.
-fn report<C: Chart, W: Write>(
-    heap: Global,
-    register: &Register<C>,
-    outcomes: &Outcomes,
-    out: &mut W,
-) -> Result<(), Failure>
-where
-    C::Fault: Drop,
-{
-    let rows = rows(register, heap)?;
-    for row in rows.iter() {
-        writeln!(out, "{row}")?;
-    }
-    writeln!(out, "{outcomes}")?;
-    Ok(writeln!(out, "{}", tally(rows.as_slice()))?)
 }
