@@ -1,4 +1,4 @@
-ghost use Rattle.std.specs.Prelude.{◌≡◌, ℕ, ◌<◌, ◌≤◌, ◌⊎◌, [], Ok, Err, vec_capacity, MatchResult};
+ghost use Rattle.std.specs.Prelude.{◌≡◌, ℕ, ◌<◌, ◌≤◌, ◌⊎◌, [], length, Ok, Err, vec_capacity, MatchResult};
 ghost use Rattle.lines.specs.Fields.{fields};
 ghost use Rattle.lines.specs.declared.malformed.Malformed.TheVariants.{Memory};
 ghost use Rattle.commands.specs.Parts.{tail};
@@ -70,9 +70,10 @@ fn read_fields(name: Name, bytes: &[u8]) -> Result<(Command, &[u8]), Malformed>
 
 /// Reads what follows the name of a command, its words into `words`, which is cleared first.
 fn read_command(name: Name, bytes: &[u8], words: &mut Vec<i32>) -> Result<Command, Malformed>
-    ensures { MatchResult result
+    ensures reads { MatchResult result
         (λ c. command_read name (fields bytes.now) ≡ Ok (c, words.new.items))
         (λ e. ((e ≡ Memory) × (vec_capacity words.old < command_words (command_read name (fields bytes.now)))) ⊎ (command_read name (fields bytes.now) ≡ Err e)) }
+    ensures few { words.old.items ≡ [] → length words.new.items ≤ command_words (command_read name (fields bytes.now)) }
 {
     let (command, rest) = read_fields(name, bytes)?;
     if command.takes_words() {
@@ -84,13 +85,15 @@ fn read_command(name: Name, bytes: &[u8], words: &mut Vec<i32>) -> Result<Comman
     Ok(command)
 }
 
-/// Reads one line, and the words of a `show` or a `weigh` into `words`, which any other command empties.
+/// Reads one line. The words of a `show` or a `weigh` go into `words`, which is cleared first and else stays empty.
 ///
-/// A line that is passed over asks for nothing. Of several things that are wrong, the answer is the first in the line.
+/// A line that is passed over asks for nothing. Of several things that are wrong, the answer is the first in the line; at most the words before it stay in `words`.
 /// Memory is wanting only if `words` has room for fewer words than the line has, or has before what is wrong with it.
 pub fn read_line(line: &[u8], words: &mut Vec<i32>) -> Result<Option<Command>, Malformed>
-    ensures { ((result ≡ Err Memory) × (vec_capacity words.old < line_words (line_read line.now))) ⊎ (with_words result words.new.items ≡ line_read line.now) }
+    ensures reads { ((result ≡ Err Memory) × (vec_capacity words.old < line_words (line_read line.now))) ⊎ (with_words result words.new.items ≡ line_read line.now) }
+    ensures few { length words.new.items ≤ line_words (line_read line.now) }
 {
+    words.clear();
     let Some((first, rest)) = begin_line(line) else {
         return Ok(None);
     };

@@ -2,7 +2,7 @@ ghost use Rattle.std.specs.Prelude.{◌≡◌};
 ghost use Rattle.files.specs.Format.{byte as byte_of, field as field_of, long_field as long_field_of};
 
 /// The byte at a place, which is 0 past the end.
-pub(crate) fn byte(bytes: &[u8], at: usize) -> u8
+pub fn byte(bytes: &[u8], at: usize) -> u8
     ensures { result ≡ byte_of bytes.now at }
 {
     bytes.get(at).copied().unwrap_or(0)

@@ -1,4 +1,4 @@
-ghost use Rattle.std.specs.Prelude.{◌≡◌, ℕ, ◌<◌, true, false, ◌⊎◌, List, ◌∷◌, Option, length, drop, Ok, Err, vec_capacity, MatchOption, MatchResult};
+ghost use Rattle.std.specs.Prelude.{◌≡◌, ℕ, ◌<◌, ◌≤◌, true, false, ◌⊎◌, List, ◌∷◌, Option, length, drop, Ok, Err, vec_capacity, MatchOption, MatchResult};
 ghost use Rattle.std.specs.Fn.{FnOnceReturnsAt};
 ghost use Rattle.lines.specs.Fields.{fields};
 ghost use Rattle.lines.specs.Numerals.{number_of};
@@ -61,11 +61,12 @@ pub fn number_field(bytes: &[u8], k: usize) -> Result<(u32, &[u8]), Malformed>
 
 /// Reads the words that all fields write into `words`, in place of what it holds.
 ///
-/// Memory is wanting only if `words` has room for fewer words than there are before the first field that is none.
+/// Memory is wanting only if `words` has room for fewer words than there are before the first field that is none. At most those words stay in `words` then.
 pub fn read_words(bytes: &[u8], words: &mut Vec<i32>) -> Result<(), Malformed>
-    ensures { MatchResult result
+    ensures reads { MatchResult result
         (λ _. words_from 0 (fields bytes.now) ≡ Ok words.new.items)
         (λ e. ((e ≡ Memory) × (vec_capacity words.old < words_kept (words_from 0 (fields bytes.now)))) ⊎ (words_from 0 (fields bytes.now) ≡ Err e)) }
+    ensures few { length words.new.items ≤ words_kept (words_from 0 (fields bytes.now)) }
 {
     words.clear();
     let mut rest = bytes;

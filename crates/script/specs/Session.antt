@@ -1,7 +1,8 @@
 -- What comes of the lines of a script, played one after another, and what is written of them.
-use Rattle.std.specs.Prelude.{◌≡◌, ℕ, suc, ◌+◌, ◌-◌, ◌^◌, ◌<◌, min, ◌⊎◌, ⊤, List, [], None, Some, Ok, Err, Option, IfSome, ℤ, Result}
+use Rattle.std.specs.Prelude.{◌≡◌, ℕ, suc, ◌+◌, ◌-◌, ◌^◌, ◌<◌, min, ◌⊎◌, ⊤, Bool, true, false, List, [], length, None, Some, Ok, Err, Option, IfSome, ℤ, Result}
 use Rattle.std.specs.Fmt.{option_append}
-use Rattle.std.specs.Io.BufRead.{first_piece, drop_through}
+use Rattle.std.specs.Io.BufRead.{first_piece, drop_through, DropsThrough}
+use Rattle.std.specs.Io.KnownBytes.{IsAtEnd}
 use Rattle.chart.specs.Meaning.{Meaning}
 use Rattle.history.specs.Rules.{State}
 use Rattle.commands.specs.declared.command.Command.{Command}
@@ -23,6 +24,11 @@ next_line bs = first_piece 10 bs
 
 abbrev pub lines_after : List ℕ → List ℕ
 lines_after bs = drop_through 10 bs
+
+-- The next line of the bytes is read, and those after it are left; or there is none. The bytes are known, or nothing is said of them.
+abbrev pub NextLine : Bool → Option (List ℕ) → List ℕ → Option (List ℕ) → Type 0
+NextLine true known line left = IfSome known (λ bs. (0 < length bs) × (line ≡ next_line bs)) × DropsThrough known left 10
+NextLine false known line left = IsAtEnd known
 
 -- what is wrong with a line, or that memory is wanting for the words that it has
 abbrev pub IsWrong : List ℕ → Malformed → Type 0

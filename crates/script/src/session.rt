@@ -1,10 +1,10 @@
 //! Scripts: the lines of commands that are played against a register, one after another.
-ghost use Rattle.std.specs.Prelude.{◌≡◌, OnOk, IfErr, IfSome, List, ℕ, Option};
+ghost use Rattle.std.specs.Prelude.{◌≡◌, IfOk, OnOk, IfErr, IfSome, List, ℕ, Option};
 ghost use Rattle.std.specs.Io.KnownBytes.{Appends};
 ghost use Rattle.history.specs.Promises.{KeepsPromise};
 ghost use Rattle.register.specs.Held.{chart_of, held, top_of};
 ghost use Rattle.script.specs.declared.session.Stop.TheVariants.{Io};
-ghost use Rattle.script.specs.Session.{Ends, Line, StopsAt};
+ghost use Rattle.script.specs.Session.{Ends, Line, NextLine, StopsAt};
 
 use crate::play::play;
 use crate::report::Outcomes;
@@ -16,7 +16,7 @@ use register::register::Register;
 use std::alloc::Global;
 use std::fmt::Display;
 use std::io;
-use std::io::{BufRead, Write};
+use std::io::{BufRead, ErrorKind, Write};
 
 /// Why a script is not played to its end.
 #[derive(Debug, Drop)]
@@ -33,6 +33,18 @@ impl From<io::Error> for Stop {
     fn from(error: io::Error) -> Stop {
         Stop::Io(error)
     }
+}
+
+/// Reads the next line of the input in place of the last, without the line feed that ends it. Answers whether there was one.
+fn next_line<R: BufRead>(input: &mut R, line: &mut Vec<u8>) -> io::Result<bool>
+    ensures { IfOk result (λ more. NextLine more (R.remaining input.old) line.new.items (R.remaining input.new)) }
+{
+    line.clear();
+    let count = input.read_until(b'\n', line)?;
+    if line.last() == Some(&b'\n') {
+        let _ = line.pop();
+    }
+    Ok(count > 0)
 }
 
 /// Reads the line of this number, and plays its command on the register, if it has one; counts what that comes to, and writes it as a line.
@@ -76,20 +88,23 @@ where
     ensures promise { KeepsPromise (C.Chart.meaning (chart_of register.new)) (top_of register.new) (held register.new) }
     ensures script { IfSome (R.remaining input) (λ bs. Ends C.Fault.output (C.Chart.meaning (chart_of register.old)) (top_of register.old) (Appends (W.Write.contents out.old) (W.Write.contents out.new)) bs (held register.old) result (held register.new)) }
 {
+    // One vector for all lines, and not one each, as the library's `split` has it: for short lines that took five times as long.
+    let mut input = input;
+    let mut line = Vec::new(heap);
     let mut words = Vec::new(heap);
     let mut outcomes = Outcomes::default();
-    let mut number: u64 = 0;
-    for line in input.split(heap, b'\n') {
-        let line = line?;
-        number = number.saturating_add(1);
+    for played in 0..u64::MAX {
+        if !next_line(&mut input, &mut line)? {
+            return Ok(outcomes);
+        }
         play_line(
             register,
             &mut outcomes,
             &mut words,
-            number,
+            played + 1,
             line.as_slice(),
             out,
         )?;
     }
-    Ok(outcomes)
+    Err(Stop::Io(io::Error::from(ErrorKind::FileTooLarge)))
 }

@@ -20,7 +20,7 @@ use script::writing::write_report;
 use sittings::two::Sittings;
 use std::fmt::Display;
 use std::fs::File;
-use std::io::{BufReader, BufWriter, Read, Write};
+use std::io::{BufRead, BufReader, BufWriter, Read, Write};
 use std::process::ExitCode;
 use std::{env, io};
 
@@ -84,6 +84,20 @@ fn read_top(text: &str) -> Result<Top, Failure>
     Ok(Top::new(u64::from(number))?)
 }
 
+/// Plays the calls of an input on a register, and writes what they come to, and then the report.
+fn play_and_report<C: Chart, R: BufRead + Drop, W: Write>(
+    rt: &HostRuntime,
+    register: &mut Register<C>,
+    input: R,
+    out: &mut W,
+) -> Result<(), Failure>
+where
+    C::Fault: Display + Drop,
+{
+    let outcomes = play_script(rt.alloc(), register, input, out)?;
+    Ok(write_report(rt.alloc(), register, outcomes, out)?)
+}
+
 /// Plays the calls of standard input on a register of a chart, and writes the report.
 fn play_calls<C: Chart + Drop>(rt: &HostRuntime, chart: C, top: Top) -> Result<(), Failure>
 where
@@ -92,10 +106,10 @@ where
     let mut register = Register::new(chart, top);
     let input = BufReader::new(rt.alloc(), rt.stdin())?;
     let mut out = BufWriter::new(rt.alloc(), rt.stdout())?;
-    // Where it fails, what was done before is printed too: a writer that is let go writes what it holds.
-    let outcomes = play_script(rt.alloc(), &mut register, input, &mut out)?;
-    write_report(rt.alloc(), &register, outcomes, &mut out)?;
-    Ok(out.flush()?)
+    let ended = play_and_report(rt, &mut register, input, &mut out);
+    // Where it fails, what was done before is printed too; that this cannot be written is told first.
+    out.flush()?;
+    ended
 }
 
 /// Plays them for a test that is sat under one chart and then under another.

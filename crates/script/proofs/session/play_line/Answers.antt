@@ -8,7 +8,7 @@ use Rattle.script.proofs.session.play_line.Goals as goal
 pub returns-in_ok-write_outcome-clause-line : goal.returns-in_ok-write_outcome-clause-line
 returns-in_ok-write_outcome-clause-line g c =
     let read : c.read_line.result ≡ Ok (Some c.in-Some.command) = search rules in
-    let line = read_is _ _ _ c.args.line.now read c.read_line.ensures in
+    let line = read_is _ _ _ c.args.line.now read c.read_line.ensures.reads in
     let plays = c.play-outcome.ensures.plays in (
       outcome_line g.C.Fault.Display.output c.in-Some.command c.play-outcome.result,
       rw (outcomes_are c.count.new.self _ _ c.count.ensures.accepted c.count.ensures.refused) (played c.in-Some.command c.read_line.new.words.items c.play-outcome.result (sym line) (rw c.as_slice.ensures.value at plays)),
@@ -18,4 +18,4 @@ returns-in_ok-write_outcome-clause-line g c =
 pub returns-in_default-clause-line : goal.returns-in_default-clause-line
 returns-in_default-clause-line g c =
     let read : c.read_line.result ≡ Ok None = search rules in
-    (_, passed (sym (read_is _ _ _ c.args.line.now read c.read_line.ensures)), appends_none _)
+    (_, passed (sym (read_is _ _ _ c.args.line.now read c.read_line.ensures.reads)), appends_none _)
